@@ -103,6 +103,7 @@ parts-law mark bytes parts = (to, from)
         go : (qs : List (List ℕ)) → (qs ≡ [] → ⊥) → All (Lacks mark) qs → qs ≡ cutAt mark (joinedBy mark qs)
         go [] s l = absurd (s refl)
         go (q ∷ qs) s l = sym (joined-cut mark q qs (l .0) (l .1))
+
     from : parts ≡ cutAt mark bytes → Parted mark bytes parts
     from e = let s = cut-some mark bytes in record {
       some = λ n. (let z : _≡_ {A = ℕ} (suc (length (s .1))) 0 = ap length (sym (s .2) ∙ sym e ∙ n) in omega arith);

@@ -7,18 +7,22 @@ use Prim.Native.Nat.{ℕ, suc, _+_, _-_, _<_, _≤_}
 use native.Mathlib.Nat.{sub-zero}
 use native.Mathlib.Numerals.{add-one}
 use native.Mathlib.Omega.{arith}
-use lib.Dec.{eqb, ltb}
+use lib.Dec.{ltb}
 use lib.ListN.{length, take, drop}
 use Rattle.std.proofs.shelf.Lists.{take-rest, drop-drop, length-take-le, nil-from-length}
-use Rattle.std.proofs.shelf.Tests.{cond-true, cond-false, eq-eqb, ne-eqb, lt-ltb, le-ltb, cases-lt}
+use Rattle.std.proofs.shelf.Tests.{cond-true, cond-false, lt-ltb, le-ltb, cases-lt}
 use Rattle.std.specs.declared.option.Option.the-variants.{Some, None}
 use Rattle.std.specs.declared.result.Result.the-variants.{Ok, Err}
 use Rattle.text.specs.declared.fault.TextFault.the-variants.{Unended, TooLong}
 use Rattle.text.specs.Parts.{before, cutAt, joinedBy}
-use Rattle.text.specs.Lines.{Step, stay, stepOf, nextLine}
+use Rattle.text.specs.Lines.{Step, stay, endStep, stepOf, nextLine}
 use Rattle.text.proofs.Cutting.{before-le, cut-some, cut-found, cut-whole, cut-joined}
 
 module _ (read : ℕ) (bs : List ℕ) where
+  lacks-end : (line : List ℕ) → (length line ≡ 0 → ⊥) → endStep read bs line ≡ stay (Err (Unended (read + 1))) read bs
+  lacks-end [] some = absurd (some refl)
+  lacks-end (b ∷ line) some = refl
+
   -- a line that another part follows
   step-found : (line rest : List ℕ) → stepOf read bs (line ∷ cutAt 10 rest) ≡ cond (ltb 1024 (length line)) (stay (Err (TooLong (read + 1))) read bs) (record { answer = Ok (Some line); left = rest; read = read + 1 })
   step-found line rest =
@@ -36,9 +40,7 @@ module _ (read : ℕ) (bs : List ℕ) where
         ∙ ap (λ (m : ℕ). cond (ltb 1024 m) (stay (Err (TooLong (read + 1))) read bs) (record { answer = Ok (Some (take n bs)); left = drop (n + 1) bs; read = read + 1 })) (length-take-le n bs (omega arith))
 
     whole : length bs ≤ n → (length bs ≡ 0 → ⊥) → nextLine read bs ≡ cond (ltb 1024 (length bs)) (stay (Err (TooLong (read + 1))) read bs) (stay (Err (Unended (read + 1))) read bs)
-    whole h some =
-        ap (stepOf read bs) (cut-whole 10 bs (rw is at h))
-        ∙ ap (λ (t : Bool). cond (ltb 1024 (length bs)) (stay (Err (TooLong (read + 1))) read bs) (cond t (stay (Ok None) read bs) (stay (Err (Unended (read + 1))) read bs))) (ne-eqb (length bs) 0 some)
+    whole h some = ap (stepOf read bs) (cut-whole 10 bs (rw is at h)) ∙ ap (cond (ltb 1024 (length bs)) (stay (Err (TooLong (read + 1))) read bs)) (lacks-end bs some)
 
     too-long : 1024 < n → stay (Err (TooLong (read + 1))) read bs ≡ nextLine read bs
     too-long h = ⊎-elim (λ l. sym (found l ∙ cond-true _ _ _ (lt-ltb 1024 n h))) (λ l. sym (whole l (λ z. omega (arith, before-le 10 bs)) ∙ cond-true _ _ _ (lt-ltb 1024 (length bs) (omega (arith, before-le 10 bs))))) (cases-lt n (length bs))

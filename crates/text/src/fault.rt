@@ -64,7 +64,8 @@ impl TextFault {
     pub fn field(self) -> usize
         ensures { λ r. ⌜ r ≡ textTold self .field ⌝ }
     {
-        0
+        let whole_line = 0;
+        whole_line
     }
 }
 

@@ -1,4 +1,5 @@
 // The reader of lines.
+ghost use mathlib.Core.Path.{_≡_};
 ghost use Prim.Native.Nat.{_≤_};
 ghost use lib.ListN.{length};
 ghost use denote.Ref.{now};
@@ -14,4 +15,13 @@ pub struct Lines<'s> {
     ghost within: { offset ≤ length (now sheet) },
     // a line takes a byte at least
     ghost counted: { read ≤ offset },
+}
+
+impl Lines<'_> {
+    // How many lines have been handed out.
+    pub fn read(&self) -> usize
+        ensures { λ r. ⌜ r ≡ now (self .entry) .read ⌝ }
+    {
+        self.read
+    }
 }

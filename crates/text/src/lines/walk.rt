@@ -1,12 +1,13 @@
 // Reading a sheet line by line.
 ghost use mathlib.Core.Path.{_≡_};
-ghost use Rattle.text.specs.Lines.{left, nextLine, shownLine, sizeChecked};
+ghost use Rattle.text.specs.Lines.{left, nextLine, shownLine, sizeChecked, sheetLines, counted, Lines-law};
 use super::Lines;
 use crate::fault::TextFault;
 use crate::part::length_before;
 
 // A sheet has at most 65,535 bytes, and a line at most 1,024 before its end.
 const SHEET_BYTES: usize = 65535;
+
 const LINE_BYTES: usize = 1024;
 
 // Fault 1 where the sheet is too big.
@@ -17,6 +18,17 @@ pub fn check_size(sheet: &[u8]) -> Result<(), TextFault>
         return Err(TextFault::TooBig);
     }
     Ok(())
+}
+
+// How many lines the sheet has, or its first fault.
+pub fn line_count(sheet: &[u8]) -> Result<usize, TextFault>
+    ensures count { λ r. ⌜ r ≡ counted (sheetLines (now (sheet .entry))) ⌝ }
+    ensures law { λ _. ⌜ Lines-law (now (sheet .entry)) ⌝ }
+{
+    check_size(sheet)?;
+    let mut lines = Lines::new(sheet);
+    while let Some(_) = lines.next()? {}
+    Ok(lines.read())
 }
 
 impl<'s> Lines<'s> {
@@ -31,13 +43,6 @@ impl<'s> Lines<'s> {
             offset: 0,
             read: 0,
         }
-    }
-
-    // How many lines have been handed out.
-    pub fn read(&self) -> usize
-        ensures { λ r. ⌜ r ≡ now (self .entry) .read ⌝ }
-    {
-        self.read
     }
 
     // The next line without its byte 10; nothing at the sheet's end.
