@@ -1,14 +1,14 @@
 -- How many numbers pass a test: what that tells of the test. Assumes nothing.
-use mathlib.Core.Path.{_≡_, refl, subst}
+use mathlib.Core.Path.{_≡_, refl}
 use mathlib.Core.Logic.{⊎-elim}
 use mathlib.Core.Bool.{Bool, true, false, cond}
-use Prim.Native.Nat.{ℕ, zero, suc, _+_, _-_, _≤_, _<_}
+use Prim.Native.Nat.{ℕ, zero, suc, _+_, _≤_, _<_}
 use native.Mathlib.Omega.{arith}
-use borrow.Author.Differences.{ints}
 use lib.Dec.{T}
-use lib.IntN.{ℤ, pos, negsuc}
+use lib.IntN.{ℤ}
 use Rattle.std.proofs.shelf.Tests.{cases-lt, cases-eq}
-use Rattle.spans.specs.Numbers.{Number, million, number, numbers, counted}
+use Rattle.spans.specs.Numbers.{number, counted}
+use Rattle.spans.specs.Counts.{counted-none, counted-next}
 
 -- 1 for a test that passes
 one : Bool → ℕ
@@ -34,18 +34,14 @@ unfolding one
 one-mono true b f = omega (arith, one-yes b (f tt))
 one-mono false b f = omega arith
 
-none : (p : ℤ → Bool) → counted p zero ≡ 0
-unfolding counted
-none p = refl
-
 next : (p : ℤ → Bool) (n : ℕ) → counted p (suc n) ≡ counted p n + one (p (number n))
-unfolding counted one
-next p n = refl
+unfolding one
+next p n = counted-next p n
 
 module _ (p q : ℤ → Bool) (only : (x : ℤ) → T (p x) → T (q x)) where
   -- a test that passes no more numbers counts no more
   pub counted-mono : (n : ℕ) → counted p n ≤ counted q n
-  counted-mono zero = omega (arith, none p, none q)
+  counted-mono zero = omega (arith, counted-none p, counted-none q)
   counted-mono (suc n) = omega (arith, next p n, next q n, counted-mono n, one-mono (p (number n)) (q (number n)) (only (number n)))
 
   -- and if it counts as many, it passes the same
@@ -71,7 +67,7 @@ module _ (p : ℤ → Bool) where
 
   -- what is counted has passed
   pub counted-some : (n : ℕ) → 0 < counted p n → (i : ℕ) × (i < n) × T (p (number i))
-  counted-some zero h = absurd (omega (arith, none p))
+  counted-some zero h = absurd (omega (arith, counted-none p))
   counted-some (suc n) h =
       ⊎-elim
       (λ s. let r = counted-some n s in (r .0, omega (arith, r .1), r .2))
@@ -89,7 +85,7 @@ module _ (p : ℤ → Bool) where
 
   -- at most one is counted where no two pass
   pub counted-alone : (n : ℕ) → ((i j : ℕ) → i < j → j < n → T (p (number i)) → T (p (number j)) → ⊥) → counted p n ≤ 1
-  counted-alone zero f = omega (arith, none p)
+  counted-alone zero f = omega (arith, counted-none p)
   counted-alone (suc n) f =
       let fewer = counted-alone n (λ i j h k. f i j h (omega arith)) in
       ⊎-elim
@@ -99,8 +95,3 @@ module _ (p : ℤ → Bool) where
       (cases-lt 0 (counted p n)))
       (λ t. omega (arith, next p n))
       (cases-lt 0 (one (p (number n))))
-
--- each number has its place
-pub place : (x : ℤ) → Number x → (i : ℕ) × (i < numbers) × (x ≡ number i)
-place (pos n) r = (n + million, omega (arith, ints, r .high), omega (arith, ints))
-place (negsuc n) r = (million - suc n, omega (arith, ints, r .low), omega (arith, ints, r .low))

@@ -1,7 +1,7 @@
 -- What the size of a span tells, whatever its kind. Assumes nothing.
 use mathlib.Core.Path.{_≡_, sym, _∙_, ap, subst}
 use mathlib.Core.Logic.{_⊎_, inl, inr}
-use mathlib.Core.Bool.{Bool, true, false}
+use mathlib.Core.Bool.{false}
 use Prim.Native.Nat.{ℕ, _≤_, _<_}
 use native.Mathlib.Omega.{arith}
 use borrow.Author.Differences.{ints}
@@ -10,14 +10,9 @@ use lib.IntN.{ℤ}
 use Rattle.std.proofs.shelf.Tests.{cases-order, cases-lt}
 use Rattle.spans.specs.Numbers.{number, numbers, counted}
 use Rattle.spans.specs.Kind.{Kind, Empty, Within, Single}
-use Rattle.spans.proofs.Counting.{counted-mono, counted-level, counted-has, counted-some, counted-two, counted-alone, place}
-
--- two tests that follow from each other
-pub alike : (a b : Bool) → (T a → T b) → (T b → T a) → a ≡ b
-alike true true f g = λ _. true
-alike true false f g = absurd (f tt)
-alike false true f g = absurd (g tt)
-alike false false f g = λ _. false
+use Rattle.spans.specs.Tests.{alike}
+use Rattle.spans.specs.Counts.{place}
+use Rattle.spans.proofs.Counting.{counted-mono, counted-level, counted-has, counted-some, counted-two, counted-alone}
 
 module _ {S : Type 0} (kind : Kind S) where
   -- an admitted number, by its place

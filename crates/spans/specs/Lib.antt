@@ -1,2 +1,10 @@
 pub mod Numbers
 pub mod Kind
+pub mod Bounds
+pub mod Refusals
+pub mod Amounts
+pub mod Tests
+pub mod BoundLaws
+pub mod Counts
+pub mod AmountLaws
+pub mod AmountKind

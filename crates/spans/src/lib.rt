@@ -6,6 +6,13 @@ ghost use lib.Dec.{eqb, ltb};
 ghost use Rattle.std.specs.Orderings.{Decides};
 ghost use Rattle.spans.specs.Kind.{Kind, leastOf, Empty, Single, Within};
 
+mod amount;
+mod refusal;
+
+pub use amount::Amount;
+pub use amount::AmountSpan;
+pub use refusal::SpanRefusal;
+
 // A span is a set of numbers, and is known by which numbers it admits.
 pub trait Span: Copy {
     // what a span of this kind means, with the laws of spans

@@ -1,0 +1,14 @@
+ghost use lib.Dec.{T};
+ghost use Rattle.spans.specs.Bounds.{proper};
+
+mod made;
+
+pub use made::AmountSpan;
+
+// An amount admits every number from its floor to its ceiling. The one empty amount has floor 1 and ceiling 0.
+#[derive(Clone, Copy)]
+pub struct Amount {
+    floor: i32,
+    ceiling: i32,
+    ghost ok: { T (proper floor ceiling) },
+}
