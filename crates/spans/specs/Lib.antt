@@ -3,8 +3,13 @@ pub mod Kind
 pub mod Bounds
 pub mod Refusals
 pub mod Amounts
-pub mod Tests
-pub mod BoundLaws
-pub mod Counts
-pub mod AmountLaws
 pub mod AmountKind
+pub mod Masks
+pub mod Choices
+pub mod ChoiceKind
+pub mod Tests
+pub mod Counts
+pub mod BoundLaws
+pub mod AmountLaws
+pub mod MaskLaws
+pub mod ChoiceLaws

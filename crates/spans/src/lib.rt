@@ -7,10 +7,13 @@ ghost use Rattle.std.specs.Orderings.{Decides};
 ghost use Rattle.spans.specs.Kind.{Kind, leastOf, Empty, Single, Within};
 
 mod amount;
+mod choice;
 mod refusal;
 
 pub use amount::Amount;
 pub use amount::AmountSpan;
+pub use choice::Choice;
+pub use choice::ChoiceSpan;
 pub use refusal::SpanRefusal;
 
 // A span is a set of numbers, and is known by which numbers it admits.
