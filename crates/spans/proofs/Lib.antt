@@ -1,3 +1,4 @@
 pub mod Counting
 pub mod Sizes
 pub mod Amounting
+pub mod Masking

@@ -104,9 +104,9 @@ module _ (a b : Amount) (x f c : ℤ) (greater : f ≡ maxZ (a .floor) (b .floor
       let low : f ≤ℤ x = omega (arith, ints, clamps, p .0, q .0) in
       let high : x ≤ℤ c = omega (arith, ints, clamps, p .1, q .1) in
       let in-bounds = ⊎-elim
-          (λ k. record { low = omega (arith, ints, clamps, k .low); order = omega (arith, ints); high = omega (arith, ints, clamps, k .high) })
-          (λ e. absurd (omega (arith, ints, p .0, p .1, e .0, e .1)))
-          (bounds a) in
+      (λ k. record { low = omega (arith, ints, clamps, k .low); order = omega (arith, ints); high = omega (arith, ints, clamps, k .high) })
+      (λ e. absurd (omega (arith, ints, p .0, p .1, e .0, e .1)))
+      (bounds a) in
       join (bounded f c) (leZ f x && leZ x c) (is-bounded f c in-bounds) (join (leZ f x) (leZ x c) (low .le) (high .le))
 
 pub meet-admits : (a b : Amount) (x : ℤ) → amountAdmits (amountMeet a b) x ≡ (amountAdmits a x && amountAdmits b x)

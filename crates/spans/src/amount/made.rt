@@ -42,7 +42,10 @@ impl Amount {
     pub fn empty() -> Amount
         ensures { λ r. ⌜ r ≡ noAmount ⌝ }
     {
-        Amount { floor: 1, ceiling: 0 }
+        Amount {
+            floor: 1,
+            ceiling: 0,
+        }
     }
 
     pub fn floor(self) -> i32

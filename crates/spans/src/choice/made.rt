@@ -1,14 +1,21 @@
 // How choices are made and changed, and that they are spans.
 ghost use mathlib.Core.Path.{_≡_};
 ghost use mathlib.Core.Bool.{false, not, _&&_, _||_};
+ghost use Prim.Native.Nat.{ℕ};
 ghost use lib.Dec.{eqb, ltb};
 ghost use lib.IntN.{pos};
+ghost use Rattle.spans.specs.Masks.{bit, tokens};
 ghost use Rattle.spans.specs.Choices.{Exactly, choiceAdmits};
 ghost use Rattle.spans.specs.ChoiceKind.{choices};
 use super::Choice;
 use crate::Span;
 
-const TOKENS: u8 = 64;
+// The mask of one token alone. A number above 63 is no token, and its mask has no bit.
+fn mask_of(token: u8) -> u64
+    ensures { λ r. ⌜ ((t : ℕ) → bit r t ≡ (ltb t tokens && eqb t token)) ⌝ }
+{
+    if token < 64 { 1 << token } else { 0 }
+}
 
 impl Choice {
     // The choice of no token.
@@ -17,13 +24,54 @@ impl Choice {
     {
         Choice { mask: 0 }
     }
+
+    // The choice of the tokens 0 to count - 1: all 64 of them where the count is 64 or more.
+    pub fn first(count: u8) -> Choice
+        ensures { λ r. ⌜ Exactly r (λ t. ltb t count) ⌝ }
+    {
+        if count >= 64 {
+            return Choice { mask: u64::MAX };
+        }
+        Choice {
+            mask: (1 << count) - 1,
+        }
+    }
+
+    // The choice of one token, or of none where the number is above 63.
+    pub fn only(token: u8) -> Choice
+        ensures { λ r. ⌜ Exactly r (λ t. eqb t token) ⌝ }
+    {
+        Choice {
+            mask: mask_of(token),
+        }
+    }
+
+    // The choice with the token added. A number above 63 changes nothing.
+    pub fn with(self, token: u8) -> Choice
+        ensures { λ r. ⌜ Exactly r (λ t. choiceAdmits self (pos t) || eqb t token) ⌝ }
+    {
+        Choice {
+            mask: self.mask | mask_of(token),
+        }
+    }
+
+    // The choice with the token struck. A number above 63 changes nothing.
+    pub fn without(self, token: u8) -> Choice
+        ensures { λ r. ⌜ Exactly r (λ t. choiceAdmits self (pos t) && not (eqb t token)) ⌝ }
+    {
+        Choice {
+            mask: self.mask & !mask_of(token),
+        }
+    }
 }
 
 pub impl Span for Choice as ChoiceSpan {
     ghost kind = { choices };
 
     fn common(self, other: Choice) -> Choice {
-        Choice { mask: self.mask & other.mask }
+        Choice {
+            mask: self.mask & other.mask,
+        }
     }
 
     fn count(self) -> u32 {
@@ -31,13 +79,10 @@ pub impl Span for Choice as ChoiceSpan {
     }
 
     fn admits(self, number: i32) -> bool {
-        if number < 0 {
+        if number < 0 || number > 63 {
             return false;
         }
-        if number >= 64 {
-            return false;
-        }
-        self.mask & (1 << number) != 0
+        self.mask & mask_of(number as u8) != 0
     }
 
     fn least(self) -> Option<i32> {

@@ -16,6 +16,6 @@ returns g c =
       most = size-within kind a b;
       means = λ w. (
         λ t e. let n = ap (kind .size) e in let l = ltb-true (c .count .result) (c .count-2 .result) t in omega arith,
-        λ f. lt-ltb (c .count .result) (c .count-2 .result) (let l = narrower kind a b w f in omega arith)
+        λ f. lt-ltb (c .count .result) (c .count-2 .result) (let l = narrower kind a b w f in omega arith),
       );
     }
