@@ -1,12 +1,12 @@
 ghost use lib.Dec.{T};
 ghost use Rattle.spans.specs.Bounds.{proper};
 
-mod made;
+mod methods;
 
-pub use made::AmountSpan;
+pub use methods::AmountSpan;
 
 // An amount admits every number from its floor to its ceiling. The one empty amount has floor 1 and ceiling 0.
-#[derive(Clone, Copy)]
+#[derive(Clone, Copy, PartialEq, Eq, Debug)]
 pub struct Amount {
     floor: i32,
     ceiling: i32,

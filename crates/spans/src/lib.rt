@@ -6,15 +6,18 @@ ghost use lib.Dec.{eqb, ltb};
 ghost use Rattle.std.specs.Orderings.{Decides};
 ghost use Rattle.spans.specs.Kind.{Kind, leastOf, Empty, Single, Within};
 
-mod amount;
-mod choice;
-mod refusal;
+pub mod amount;
+pub mod choice;
+pub mod refusal;
 
 pub use amount::Amount;
 pub use amount::AmountSpan;
 pub use choice::Choice;
 pub use choice::ChoiceSpan;
 pub use refusal::SpanRefusal;
+
+#[cfg(test)]
+mod tests;
 
 // A span is a set of numbers, and is known by which numbers it admits.
 pub trait Span: Copy {

@@ -2,7 +2,7 @@ ghost use mathlib.Core.Path.{_≡_};
 ghost use Rattle.spans.specs.Refusals.{refusalNumber};
 
 // Why a span is not made. Such a refusal names no place and no rule.
-#[derive(Clone, Copy)]
+#[derive(Clone, Copy, PartialEq, Eq, Debug)]
 pub enum SpanRefusal {
     // the floor of an amount above its ceiling, or one of them beyond a million
     AmountBounds,

@@ -10,8 +10,8 @@ use Rattle.spans.specs.Masks.{tokens}
 use Rattle.spans.specs.Choices.{choiceAdmits}
 use Rattle.spans.specs.ChoiceLaws.{mask-below}
 use Rattle.spans.proofs.Masking.{bit-test, admits-below, admits-above}
-use Rattle.spans.proofs.choice.made.ChoiceSpan.admits.Needs as need
-use Rattle.spans.proofs.choice.made.ChoiceSpan.admits.Needs.{then-number-lt0·by·then-number-lt0, then-number-lt0·by·else-number-lt0·then-number-gt63}
+use Rattle.spans.proofs.choice.methods.ChoiceSpan.admits.Needs as need
+use Rattle.spans.proofs.choice.methods.ChoiceSpan.admits.Needs.{then-number-lt0·by·then-number-lt0, then-number-lt0·by·else-number-lt0·then-number-gt63}
 
 pub returns-then-number-lt0 : need.returns-then-number-lt0
 returns-then-number-lt0 c =

@@ -6,7 +6,7 @@ use Rattle.std.proofs.shelf.Bits.{one-shl, pow-below}
 use Rattle.std.proofs.shelf.Tests.{ne-eqb}
 use Rattle.spans.specs.Masks.{tokens, bit}
 use Rattle.spans.proofs.Masking.{bit-none, bit-moved, bits-by}
-use Rattle.spans.proofs.choice.made.mask_of.Needs as need
+use Rattle.spans.proofs.choice.methods.mask_of.Needs as need
 
 pub returns-then-token-lt64 : need.returns-then-token-lt64
 returns-then-token-lt64 c t =

@@ -5,7 +5,7 @@ use mir.Val.{toZ, ofZ}
 use Rattle.std.specs.Numbers.{maxZ, minZ}
 use Rattle.std.proofs.shelf.Signed.{ints, clamps}
 use Rattle.spans.specs.Amounts.{amountFrom}
-use Rattle.spans.proofs.amount.made.AmountSpan.common.Needs as need
+use Rattle.spans.proofs.amount.methods.AmountSpan.common.Needs as need
 
 pub returns : need.returns
 returns c =

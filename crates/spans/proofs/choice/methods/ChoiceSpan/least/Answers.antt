@@ -13,7 +13,7 @@ use Rattle.spans.specs.MaskLaws.{ones-none}
 use Rattle.spans.specs.Choices.{choiceLeast}
 use Rattle.spans.specs.ChoiceLaws.{mask-below}
 use Rattle.spans.proofs.Masking.{no-ones}
-use Rattle.spans.proofs.choice.made.ChoiceSpan.least.Needs as need
+use Rattle.spans.proofs.choice.methods.ChoiceSpan.least.Needs as need
 
 pub returns-then-self-eq0 : need.returns-then-self-eq0
 returns-then-self-eq0 c =
