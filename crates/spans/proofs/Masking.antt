@@ -12,7 +12,7 @@ use lib.IntN.{ℤ, pos, negsuc}
 use lib.Signed.{_≤ℤ_, _<ℤ_}
 use Rattle.std.proofs.shelf.Bits.{pow-pos}
 use Rattle.std.proofs.shelf.Tests.{true≢false, lt-ltb, le-ltb, eq-eqb, ne-eqb, and-left, and-right, cases-lt, cases-eq}
-use Rattle.spans.specs.Masks.{tokens, bit}
+use Rattle.spans.specs.Masks.{tokens, bit, Marks}
 use Rattle.spans.specs.MaskLaws.{digits, bit-zero, bit-suc, bit-above, same-bits, bit-and}
 use Rattle.spans.specs.Choices.{choiceAdmits}
 use Rattle.spans.specs.ChoiceLaws.{mask-below}
@@ -70,7 +70,7 @@ bit-not (suc k) m (suc t) h l =
     bit-suc (2 ^ suc k - 1 - m) t ∙ ap (λ (x : ℕ). bit x t) half ∙ bit-not k (m / 2) t (omega arith) (omega arith) ∙ ap not (sym (bit-suc m t))
 
 -- a mask's bits by a test of the tokens
-pub bits-by : (m : ℕ) (test : ℕ → Bool) → m < 2 ^ tokens → ((t : ℕ) → t < tokens → bit m t ≡ test t) → (t : ℕ) → bit m t ≡ (ltb t tokens && test t)
+pub bits-by : (m : ℕ) (test : ℕ → Bool) → m < 2 ^ tokens → ((t : ℕ) → t < tokens → bit m t ≡ test t) → Marks m test
 bits-by m test h f t =
     ⊎-elim
     (λ l. f t l ∙ ap (λ (b : Bool). b && test t) (sym (lt-ltb t tokens l)))
@@ -78,7 +78,7 @@ bits-by m test h f t =
     (cases-lt t tokens)
 
 -- the mask r of the token k alone
-module _ (r k : ℕ) (below : r < 2 ^ tokens) (alone : (t : ℕ) → bit r t ≡ (ltb t tokens && eqb t k)) where
+module _ (r k : ℕ) (below : r < 2 ^ tokens) (alone : Marks r (λ t. eqb t k)) where
   pub at-token : (t : ℕ) → t < tokens → bit r t ≡ eqb t k
   at-token t h = alone t ∙ ap (λ (b : Bool). b && eqb t k) (lt-ltb t tokens h)
 

@@ -15,7 +15,7 @@ use Rattle.spans.specs.Tests.{both, join, either, first, alike}
 use Rattle.spans.specs.Counts.{place, counted-none, counted-gap, counted-range}
 use Rattle.spans.specs.Bounds.{bounded, proper}
 use Rattle.spans.specs.BoundLaws.{Bounded, bounded-is, is-bounded}
-use Rattle.spans.specs.Amounts.{amountAdmits, atLeast0, amountSize, noAmount, amountFrom, amountMeet}
+use Rattle.spans.specs.Amounts.{fromTo, amountAdmits, atLeast0, amountSize, noAmount, amountFrom, amountMeet}
 use Rattle.spans.specs.declared.amount.Amount.{Amount}
 
 -- amounts of the same bounds are the same
@@ -79,24 +79,24 @@ amount-same a b f = go (bounds a) (bounds b)
 
 -- ---- the common part
 
-pub from-admits : (f c x : ℤ) → amountAdmits (amountFrom f c) x ≡ (bounded f c && (leZ f x && leZ x c))
+pub from-admits : (f c x : ℤ) → amountAdmits (amountFrom f c) x ≡ (bounded f c && fromTo f c x)
 from-admits f c x = go (bounded f c)
   where
-    go : (t : Bool) → (leZ (cond t f (pos 1)) x && leZ x (cond t c (pos 0))) ≡ (t && (leZ f x && leZ x c))
+    go : (t : Bool) → fromTo (cond t f (pos 1)) (cond t c (pos 0)) x ≡ (t && fromTo f c x)
     go true = refl
     go false = none-admits x
 
 module _ (a b : Amount) (x f c : ℤ) (greater : f ≡ maxZ (a .floor) (b .floor)) (lesser : c ≡ minZ (a .ceiling) (b .ceiling)) where
-  meet-both : T (bounded f c && (leZ f x && leZ x c)) → T (amountAdmits a x && amountAdmits b x)
+  meet-both : T (bounded f c && fromTo f c x) → T (amountAdmits a x && amountAdmits b x)
   meet-both t =
-      let s = both (leZ f x) (leZ x c) (both (bounded f c) (leZ f x && leZ x c) t .1) in
+      let s = both (leZ f x) (leZ x c) (both (bounded f c) (fromTo f c x) t .1) in
       let low : f ≤ℤ x = leZ-yes (s .0) in
       let high : x ≤ℤ c = leZ-yes (s .1) in
       join (amountAdmits a x) (amountAdmits b x)
       (is-admitted a x (omega (arith, ints, clamps)) (omega (arith, ints, clamps)))
       (is-admitted b x (omega (arith, ints, clamps)) (omega (arith, ints, clamps)))
 
-  both-meet : T (amountAdmits a x && amountAdmits b x) → T (bounded f c && (leZ f x && leZ x c))
+  both-meet : T (amountAdmits a x && amountAdmits b x) → T (bounded f c && fromTo f c x)
   both-meet t =
       let s = both (amountAdmits a x) (amountAdmits b x) t in
       let p = admits-is a x (s .0) in
@@ -107,7 +107,7 @@ module _ (a b : Amount) (x f c : ℤ) (greater : f ≡ maxZ (a .floor) (b .floor
       (λ k. record { low = omega (arith, ints, clamps, k .low); order = omega (arith, ints); high = omega (arith, ints, clamps, k .high) })
       (λ e. absurd (omega (arith, ints, p .0, p .1, e .0, e .1)))
       (bounds a) in
-      join (bounded f c) (leZ f x && leZ x c) (is-bounded f c in-bounds) (join (leZ f x) (leZ x c) (low .le) (high .le))
+      join (bounded f c) (fromTo f c x) (is-bounded f c in-bounds) (join (leZ f x) (leZ x c) (low .le) (high .le))
 
 pub meet-admits : (a b : Amount) (x : ℤ) → amountAdmits (amountMeet a b) x ≡ (amountAdmits a x && amountAdmits b x)
 meet-admits a b x =

@@ -13,9 +13,13 @@ use Rattle.spans.specs.declared.amount.Amount.{Amount}
 use Rattle.spans.specs.declared.refusal.SpanRefusal.{SpanRefusal}
 use Rattle.spans.specs.declared.refusal.SpanRefusal.the-variants.{AmountBounds}
 
+-- x is one of the numbers from the floor to the ceiling
+abbrev pub fromTo : ℤ → ℤ → ℤ → Bool
+fromTo floor ceiling x = leZ floor x && leZ x ceiling
+
 -- an amount admits every number from its floor to its ceiling
 abbrev pub amountAdmits : Amount → ℤ → Bool
-amountAdmits a x = leZ (a .floor) x && leZ x (a .ceiling)
+amountAdmits a x = fromTo (a .floor) (a .ceiling) x
 
 -- a whole number, or 0 where it is below 0
 abbrev pub atLeast0 : ℤ → ℕ

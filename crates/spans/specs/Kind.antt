@@ -32,6 +32,7 @@ pub record Kind (S : Type 0) : Type 0 where
   pub least-admitted : (a : S) (x : ℤ) → T (admits a x) → T (admits a (least a))
   -- no admitted number lies below the least one
   pub least-first : (a : S) (x : ℤ) → T (admits a x) → least a ≤ℤ x
+  -- nothing is admitted by `none`
   pub none-admits : (x : ℤ) → admits none x ≡ false
 
 module _ {S : Type 0} (kind : Kind S) where

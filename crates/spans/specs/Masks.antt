@@ -1,5 +1,6 @@
 -- Sets of tokens as masks of bits. Assumes nothing.
-use mathlib.Core.Bool.{Bool}
+use mathlib.Core.Path.{_≡_}
+use mathlib.Core.Bool.{Bool, _&&_}
 use Prim.Native.Nat.{ℕ, _/_, _%_, _^_}
 use lib.Dec.{eqb, ltb}
 
@@ -14,3 +15,7 @@ isMask mask = ltb mask (2 ^ tokens)
 -- the token's bit is set
 unfoldable pub bit : ℕ → ℕ → Bool
 bit mask token = eqb (mask / 2 ^ token % 2) 1
+
+-- the mask has exactly the bits of the tokens that pass the test
+abbrev pub Marks : ℕ → (ℕ → Bool) → Type 0
+Marks mask test = (t : ℕ) → bit mask t ≡ (ltb t tokens && test t)

@@ -1,3 +1,4 @@
+ghost use mathlib.Core.Path.{_≡_};
 ghost use lib.Dec.{T};
 ghost use Rattle.spans.specs.Bounds.{proper};
 
@@ -11,4 +12,18 @@ pub struct Amount {
     floor: i32,
     ceiling: i32,
     ghost ok: { T (proper floor ceiling) },
+}
+
+impl Amount {
+    pub fn floor(self) -> i32
+        ensures { λ r. ⌜ r ≡ self .floor ⌝ }
+    {
+        self.floor
+    }
+
+    pub fn ceiling(self) -> i32
+        ensures { λ r. ⌜ r ≡ self .ceiling ⌝ }
+    {
+        self.ceiling
+    }
 }

@@ -59,8 +59,8 @@ pub trait Span: Copy {
     // Whether fewer numbers are admitted than the other span admits. Of a span within the other, this says that the two differ.
     fn is_narrower(self, other: Self) -> bool
         ensures count { λ r. ⌜ r ≡ ltb (kind .size self) (kind .size other) ⌝ }
-        ensures most { λ _. ⌜ (Within kind self other → kind .size self ≤ kind .size other) ⌝ }
-        ensures means { λ r. ⌜ (Within kind self other → Decides r (self ≢ other)) ⌝ }
+        ensures within { λ _. ⌜ (Within kind self other → kind .size self ≤ kind .size other) ⌝ }
+        ensures differs { λ r. ⌜ (Within kind self other → Decides r (self ≢ other)) ⌝ }
     {
         self.count() < other.count()
     }

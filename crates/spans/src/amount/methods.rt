@@ -1,7 +1,9 @@
-// How amounts are made and read, and that they are spans.
+// How amounts are made, and that they are spans.
 ghost use mathlib.Core.Path.{_≡_};
+ghost use mathlib.Core.Bool.{_&&_};
+ghost use lib.IntN.{ℤ};
 ghost use Rattle.spans.specs.Bounds.{bounded};
-ghost use Rattle.spans.specs.Amounts.{Asked, amountFrom, noAmount};
+ghost use Rattle.spans.specs.Amounts.{Asked, amountAdmits, amountFrom, fromTo, noAmount};
 ghost use Rattle.spans.specs.AmountKind.{amounts};
 use super::Amount;
 use crate::Span;
@@ -30,7 +32,8 @@ impl Amount {
 
     // The same, but the empty amount where `new` refuses.
     pub fn between(floor: i32, ceiling: i32) -> Amount
-        ensures { λ r. ⌜ r ≡ amountFrom floor ceiling ⌝ }
+        ensures value { λ r. ⌜ r ≡ amountFrom floor ceiling ⌝ }
+        ensures admits { λ r. ⌜ ((x : ℤ) → amountAdmits r x ≡ (bounded floor ceiling && fromTo floor ceiling x)) ⌝ }
     {
         if are_bounds(floor, ceiling) {
             return Amount { floor, ceiling };
@@ -46,18 +49,6 @@ impl Amount {
             floor: 1,
             ceiling: 0,
         }
-    }
-
-    pub fn floor(self) -> i32
-        ensures { λ r. ⌜ r ≡ self .floor ⌝ }
-    {
-        self.floor
-    }
-
-    pub fn ceiling(self) -> i32
-        ensures { λ r. ⌜ r ≡ self .ceiling ⌝ }
-    {
-        self.ceiling
     }
 }
 

@@ -1,20 +1,21 @@
 // How choices are made and changed, and that they are spans.
-ghost use mathlib.Core.Path.{_≡_};
 ghost use mathlib.Core.Bool.{false, not, _&&_, _||_};
-ghost use Prim.Native.Nat.{ℕ};
 ghost use lib.Dec.{eqb, ltb};
 ghost use lib.IntN.{pos};
-ghost use Rattle.spans.specs.Masks.{bit, tokens};
+ghost use Rattle.spans.specs.Masks.{Marks};
 ghost use Rattle.spans.specs.Choices.{Exactly, choiceAdmits};
 ghost use Rattle.spans.specs.ChoiceKind.{choices};
 use super::Choice;
 use crate::Span;
 
+// How many tokens there are.
+const TOKENS: u8 = 64;
+
 // The mask of one token alone. A number above 63 is no token, and its mask has no bit.
 fn mask_of(token: u8) -> u64
-    ensures { λ r. ⌜ ((t : ℕ) → bit r t ≡ (ltb t tokens && eqb t token)) ⌝ }
+    ensures { λ r. ⌜ Marks r (λ t. eqb t token) ⌝ }
 {
-    if token < 64 { 1 << token } else { 0 }
+    if token < TOKENS { 1 << token } else { 0 }
 }
 
 impl Choice {
@@ -29,7 +30,7 @@ impl Choice {
     pub fn first(count: u8) -> Choice
         ensures { λ r. ⌜ Exactly r (λ t. ltb t count) ⌝ }
     {
-        if count >= 64 {
+        if count >= TOKENS {
             return Choice { mask: u64::MAX };
         }
         Choice {
@@ -79,7 +80,7 @@ pub impl Span for Choice as ChoiceSpan {
     }
 
     fn admits(self, number: i32) -> bool {
-        if number < 0 || number > 63 {
+        if number < 0 || number >= TOKENS as i32 {
             return false;
         }
         self.mask & mask_of(number as u8) != 0

@@ -13,8 +13,8 @@ returns g c =
     let b = c .args .other in
     record {
       count = ap₂ ltb (c .count .ensures) (c .count-2 .ensures);
-      most = size-within kind a b;
-      means = λ w. (
+      within = size-within kind a b;
+      differs = λ w. (
         λ t e. let n = ap (kind .size) e in let l = ltb-true (c .count .result) (c .count-2 .result) t in omega arith,
         λ f. lt-ltb (c .count .result) (c .count-2 .result) (let l = narrower kind a b w f in omega arith),
       );

@@ -8,11 +8,11 @@ use Rattle.spans.specs.Masks.{tokens, bit}
 use Rattle.spans.proofs.Masking.{bit-none, bit-moved, bits-by}
 use Rattle.spans.proofs.choice.methods.mask_of.Needs as need
 
-pub returns-then-token-lt64 : need.returns-then-token-lt64
-returns-then-token-lt64 c t =
+pub returns-then-token-lt-TOKENS : need.returns-then-token-lt-TOKENS
+returns-then-token-lt-TOKENS c t =
     let k = c .args .token in
-    let h = c .if-token-lt64 .taken in
+    let h = c .if-token-lt-TOKENS .taken in
     ap (λ (m : ℕ). bit m t) (one-shl k tokens h) ∙ bits-by (2 ^ k) (λ s. eqb s k) (pow-below k tokens h) (λ s _. bit-moved k s) t
 
-pub returns-else-token-lt64 : need.returns-else-token-lt64
-returns-else-token-lt64 c = bits-by 0 (λ t. eqb t (c .args .token)) (omega arith) (λ t h. bit-none t ∙ sym (ne-eqb t (c .args .token) (λ e. omega arith)))
+pub returns-else-token-lt-TOKENS : need.returns-else-token-lt-TOKENS
+returns-else-token-lt-TOKENS c = bits-by 0 (λ t. eqb t (c .args .token)) (omega arith) (λ t h. bit-none t ∙ sym (ne-eqb t (c .args .token) (λ e. omega arith)))

@@ -11,4 +11,4 @@ pub returns : need.returns
 returns c =
     let floor : toZ w32 (ofZ w32 (c .max .result)) ≡ maxZ (c .args .self .floor) (c .args .other .floor) = omega (arith, ints, clamps) in
     let ceiling : toZ w32 (ofZ w32 (c .min .result)) ≡ minZ (c .args .self .ceiling) (c .args .other .ceiling) = omega (arith, ints, clamps) in
-    c .between .ensures ∙ ap₂ amountFrom floor ceiling
+    c .between .ensures .value ∙ ap₂ amountFrom floor ceiling

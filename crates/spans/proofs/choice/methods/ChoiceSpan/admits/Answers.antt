@@ -11,13 +11,13 @@ use Rattle.spans.specs.Choices.{choiceAdmits}
 use Rattle.spans.specs.ChoiceLaws.{mask-below}
 use Rattle.spans.proofs.Masking.{bit-test, admits-below, admits-above}
 use Rattle.spans.proofs.choice.methods.ChoiceSpan.admits.Needs as need
-use Rattle.spans.proofs.choice.methods.ChoiceSpan.admits.Needs.{then-number-lt0·by·then-number-lt0, then-number-lt0·by·else-number-lt0·then-number-gt63}
+use Rattle.spans.proofs.choice.methods.ChoiceSpan.admits.Needs.{then-number-lt0·by·then-number-lt0, then-number-lt0·by·else-number-lt0·then-number}
 
 pub returns-then-number-lt0 : need.returns-then-number-lt0
 returns-then-number-lt0 c =
     elim (c .then-number-lt0 .came) [
       | then-number-lt0·by·then-number-lt0 w ↦ sym (admits-below (c .args .self) (c .args .number) (omega (arith, ints)))
-      | then-number-lt0·by·else-number-lt0·then-number-gt63 w ↦ sym (admits-above (c .args .self) (c .args .number) (omega (arith, ints)))
+      | then-number-lt0·by·else-number-lt0·then-number w ↦ sym (admits-above (c .args .self) (c .args .number) (omega (arith, ints)))
     ]
 
 pub returns : need.returns
