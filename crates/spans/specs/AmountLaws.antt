@@ -130,8 +130,8 @@ amount-counts a = ⊎-elim full empty (bounds a)
 
     full : Bounded (a .floor) (a .ceiling) → amountSize a ≡ counted (amountAdmits a) numbers
     full b =
-        let low = place (a .floor) (record { low = b .low; high = omega (arith, ints, b .order, b .high) }) in
-        let high = place (a .ceiling) (record { low = omega (arith, ints, b .order, b .low); high = b .high }) in
+        let low = place (a .floor) (record { low = omega (arith, ints, b .low); high = omega (arith, ints, b .order, b .high) }) in
+        let high = place (a .ceiling) (record { low = omega (arith, ints, b .order, b .low); high = omega (arith, ints, b .high) }) in
         let order : low .0 ≤ high .0 = omega (arith, ints, low .2, high .2, b .order) in
         size-by (suc (high .0) - low .0) (omega (arith, ints, low .2, high .2, order))
         ∙ sym (counted-range (amountAdmits a) (low .0) (high .0) order (high .1)
