@@ -1,0 +1,15 @@
+pub mod Numbers
+pub mod Kind
+pub mod Bounds
+pub mod Refusals
+pub mod Amounts
+pub mod AmountKind
+pub mod Masks
+pub mod Choices
+pub mod ChoiceKind
+pub mod Tests
+pub mod Counts
+pub mod BoundLaws
+pub mod AmountLaws
+pub mod MaskLaws
+pub mod ChoiceLaws
