@@ -1,0 +1,4 @@
+// The engine: calls on a position, for every kind of span and every rule book.
+pub mod refusal;
+
+pub use refusal::Refusal;
