@@ -1,4 +1,5 @@
 // The engine: calls on a position, for every kind of span and every rule book.
+pub mod laws;
 pub mod refusal;
 
 pub use refusal::Refusal;
