@@ -1,3 +1,4 @@
 pub mod Places
 pub mod Wakes
 pub mod Joins
+pub mod Filters

@@ -1,7 +1,7 @@
 -- What a rule book means, and the laws that every book keeps. Assumes nothing.
 use mathlib.Core.Path.{_≡_}
 use mathlib.Core.Logic.{_↔_}
-use mathlib.Core.Bool.{Bool}
+use mathlib.Core.Bool.{Bool, true}
 use mathlib.Core.List.{List}
 use Prim.Native.Nat.{ℕ, _<_, _≤_}
 use lib.Dec.{T}
@@ -53,3 +53,7 @@ pub record Lawful {S : Type 0} (kind : Kind S) (book : Meaning S) : Type 0 where
   pub few-places : book .places ≤ 254
   pub few-rules : book .rules ≤ 1000
   pub each : (r : ℕ) → r < book .rules → Sound kind (book .places) (book .rule r)
+
+-- a rule of these places that every holding obeys and that leaves every span as it is
+abbrev pub idle : {S : Type 0} → Kind S → List ℕ → Rule S
+idle kind scope = record { scope = scope; obeys = λ h. true; answer = λ p b. spanAt kind b p }
