@@ -11,7 +11,7 @@ use lib.Signed.{leZ, _≤ℤ_, leZ-yes}
 use Rattle.std.specs.Numbers.{maxZ, minZ}
 use Rattle.std.proofs.shelf.Signed.{ints, clamps}
 use Rattle.spans.specs.Numbers.{Number, million, number, numbers, counted}
-use Rattle.spans.specs.Tests.{both, join, either, first, alike}
+use Rattle.spans.specs.Bools.{both, join, either, first, alike}
 use Rattle.spans.specs.Counts.{place, counted-none, counted-gap, counted-range}
 use Rattle.spans.specs.Bounds.{bounded, proper}
 use Rattle.spans.specs.BoundLaws.{Bounded, bounded-is, is-bounded}
