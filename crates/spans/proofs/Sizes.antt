@@ -9,7 +9,7 @@ use lib.Dec.{T, ltb}
 use lib.IntN.{ℤ}
 use Rattle.std.specs.Orderings.{When}
 use Rattle.std.proofs.shelf.Tests.{cases-order, cases-lt, ltb-true, ltb-false}
-use Rattle.spans.specs.Numbers.{number, numbers, counted}
+use Rattle.spans.specs.Numbers.{number, numbers}
 use Rattle.spans.specs.Kind.{Kind, Empty, Within, Single}
 use Rattle.spans.specs.Bools.{alike}
 use Rattle.spans.specs.Counts.{place}

@@ -1,7 +1,7 @@
 // Spans: sets of numbers. A number is a whole number from -1,000,000 to 1,000,000.
 ghost use mathlib.Core.Path.{_≡_};
 ghost use mathlib.Core.Logic.{_≢_};
-ghost use Prim.Native.Nat.{ℕ, _≤_};
+ghost use Prim.Native.Nat.{_≤_};
 ghost use lib.Dec.{eqb, ltb};
 ghost use Rattle.std.specs.Orderings.{Decides, When};
 ghost use Rattle.spans.specs.Kind.{Kind, leastOf, Empty, Single, Within};
