@@ -10,7 +10,7 @@ use lib.IntN.{ℤ}
 use lib.ListN.{length}
 use Rattle.std.proofs.shelf.Tests.{cases-lt}
 use Rattle.spans.specs.Kind.{Kind, Within, Single}
-use Rattle.spans.specs.Tests.{both, join}
+use Rattle.spans.specs.Bools.{both, join}
 use Rattle.spans.proofs.Sizes.{size-some, some-least, one-single}
 use Rattle.books.specs.Boards.{Among, Distinct, has, spanAt, numberAt, Full, Inside, On}
 use Rattle.books.specs.Meaning.{Rule, Sound, idle}

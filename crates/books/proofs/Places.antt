@@ -9,7 +9,7 @@ use lib.Dec.{T, eqb, eqb→eq, eqb-refl}
 use lib.ListN.{length, getD, drop}
 use Rattle.std.proofs.shelf.Lists.{at-drop-more}
 use Rattle.std.proofs.shelf.Tests.{eq-eqb, ne-eqb, or-left}
-use Rattle.spans.specs.Tests.{either, first}
+use Rattle.spans.specs.Bools.{either, first}
 use Rattle.books.specs.Boards.{Among, has}
 
 pub has-among : (x : ℕ) (xs : List ℕ) → T (has x xs) → Among x xs

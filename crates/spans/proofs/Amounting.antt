@@ -7,15 +7,20 @@ use native.Mathlib.Omega.{arith}
 use borrow.Author.Differences.{ints}
 use lib.IntN.{ℤ, pos, negsuc, negℤ, _-ℤ_, _+ℤ_}
 use lib.Signed.{_≤ℤ_}
+use Rattle.std.specs.declared.result.Result.the-variants.{Ok, Err}
 use Rattle.std.proofs.shelf.Tests.{cond-true, cond-false}
 use Rattle.spans.specs.Numbers.{million}
 use Rattle.spans.specs.Bounds.{bounded}
-use Rattle.spans.specs.Amounts.{amountFrom, atLeast0, amountSize, noAmount}
+use Rattle.spans.specs.Amounts.{asked, amountFrom, atLeast0, amountSize, noAmount}
 use Rattle.spans.specs.AmountLaws.{same-bounds, bounds}
 use Rattle.spans.specs.declared.amount.Amount.{Amount}
+use Rattle.spans.specs.declared.refusal.SpanRefusal.the-variants.{AmountBounds}
 
 pub from-made : (r : Amount) (f c : ℤ) → bounded f c ≡ true → r .floor ≡ f → r .ceiling ≡ c → r ≡ amountFrom f c
 from-made r f c e p q = same-bounds r (amountFrom f c) (p ∙ sym (cond-true (bounded f c) f (pos 1) e)) (q ∙ sym (cond-true (bounded f c) c (pos 0) e))
+
+pub asked-made : (r : Amount) (f c : ℤ) → bounded f c ≡ true → r .floor ≡ f → r .ceiling ≡ c → Ok r ≡ asked f c
+asked-made r f c e p q = ap (λ (a : Amount). Ok a) (from-made r f c e p q) ∙ sym (cond-true (bounded f c) (Ok (amountFrom f c)) (Err AmountBounds) e)
 
 pub from-empty : (r : Amount) (f c : ℤ) → bounded f c ≡ false → r ≡ noAmount → r ≡ amountFrom f c
 from-empty r f c e p = p ∙ same-bounds noAmount (amountFrom f c) (sym (cond-false (bounded f c) f (pos 1) e)) (sym (cond-false (bounded f c) c (pos 0) e))

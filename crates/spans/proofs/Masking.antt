@@ -1,18 +1,18 @@
 -- The bits of the masks that choices are made of. Assumes nothing.
-use mathlib.Core.Path.{_≡_, refl, sym, _∙_, ap, ap₂, subst}
+use mathlib.Core.Path.{_≡_, refl, sym, _∙_, ap, ap₂}
 use mathlib.Core.Logic.{_⊎_, inl, inr, ⊎-elim}
 use mathlib.Core.Bool.{Bool, true, false, not, _&&_, _||_}
-use Prim.Native.Nat.{ℕ, zero, suc, _+_, _-_, _*_, _/_, _%_, _^_, _≤_, _<_, max}
+use Prim.Native.Nat.{ℕ, zero, suc, _-_, _/_, _%_, _^_, _≤_, _<_, max}
 use native.Mathlib.Omega.{arith}
 use borrow.Author.Differences.{ints}
-use lib.Bits.{bitAnd, bitOr, or-shr, or-step, and-lt}
+use lib.Bits.{bitAnd, bitOr, or-lt, or-shr, or-step, and-lt}
 use lib.Count.{ones, ones-step}
-use lib.Dec.{T, eqb, ltb, eqb·zero-suc, eqb·suc-zero, eqb·suc-suc, leb·suc-zero, leb·suc-suc}
+use lib.Dec.{T, eqb, ltb, lt→ltb, eqb·zero-suc, eqb·suc-zero, eqb·suc-suc, leb·suc-suc}
 use lib.IntN.{ℤ, pos, negsuc}
 use lib.Signed.{_≤ℤ_, _<ℤ_}
 use Rattle.std.proofs.shelf.Bits.{pow-pos}
 use Rattle.std.proofs.shelf.Tests.{true≢false, lt-ltb, le-ltb, eq-eqb, ne-eqb, and-left, and-right, cases-lt, cases-eq}
-use Rattle.spans.specs.Masks.{tokens, bit, Marks}
+use Rattle.spans.specs.Masks.{tokens, isMask, bit, Marks}
 use Rattle.spans.specs.MaskLaws.{digits, bit-zero, bit-suc, bit-above, same-bits, bit-and}
 use Rattle.spans.specs.Choices.{choiceAdmits}
 use Rattle.spans.specs.ChoiceLaws.{mask-below}
@@ -42,6 +42,9 @@ bit-lowest (suc n) zero = odd (2 ^ suc n - 1) (omega (arith, pow-pos n)) ∙ sym
 bit-lowest (suc n) (suc t) =
     let half : (2 ^ suc n - 1) / 2 ≡ 2 ^ n - 1 = omega (arith, pow-pos n) in
     bit-suc (2 ^ suc n - 1) t ∙ ap (λ (m : ℕ). bit m t) half ∙ bit-lowest n t ∙ sym (leb·suc-suc (suc t) n)
+
+pub or-mask : (a b : ℕ) → a < 2 ^ tokens → b < 2 ^ tokens → T (isMask (bitOr a b))
+or-mask a b h l = lt→ltb (bitOr a b) (2 ^ tokens) (or-lt tokens a b h l)
 
 pub bit-or : (a b t : ℕ) → bit (bitOr a b) t ≡ (bit a t || bit b t)
 unfolding bit

@@ -1,16 +1,17 @@
 -- What the size of a span tells, whatever its kind. Assumes nothing.
-use mathlib.Core.Path.{_≡_, sym, _∙_, ap, subst}
-use mathlib.Core.Logic.{_⊎_, inl, inr}
-use mathlib.Core.Bool.{false}
+use mathlib.Core.Path.{_≡_, refl, sym, _∙_, ap, subst}
+use mathlib.Core.Logic.{_⊎_, inl, inr, _≢_}
+use mathlib.Core.Bool.{Bool, true, false}
 use Prim.Native.Nat.{ℕ, _≤_, _<_}
 use native.Mathlib.Omega.{arith}
 use borrow.Author.Differences.{ints}
-use lib.Dec.{T}
+use lib.Dec.{T, ltb}
 use lib.IntN.{ℤ}
-use Rattle.std.proofs.shelf.Tests.{cases-order, cases-lt}
-use Rattle.spans.specs.Numbers.{number, numbers, counted}
+use Rattle.std.specs.Orderings.{When}
+use Rattle.std.proofs.shelf.Tests.{cases-order, cases-lt, ltb-true, ltb-false}
+use Rattle.spans.specs.Numbers.{number, numbers}
 use Rattle.spans.specs.Kind.{Kind, Empty, Within, Single}
-use Rattle.spans.specs.Tests.{alike}
+use Rattle.spans.specs.Bools.{alike}
 use Rattle.spans.specs.Counts.{place}
 use Rattle.spans.proofs.Counting.{counted-mono, counted-level, counted-has, counted-some, counted-two, counted-alone}
 
@@ -89,10 +90,10 @@ module _ {S : Type 0} (kind : Kind S) where
       apart : (i j : ℕ) → i < j → number i ≡ number j → ⊥
       apart i j h e = omega (arith, ints, e)
 
-  -- a span within another, and not the other, has fewer numbers
-  pub narrower : (a b : S) → Within kind a b → (a ≡ b → ⊥) → kind .size a < kind .size b
-  narrower a b w f = go (cases-lt (kind .size a) (kind .size b))
+  -- so of a span within another the sizes tell whether the two differ
+  pub told-apart : (a b : S) → Within kind a b → When (ltb (kind .size a) (kind .size b)) (a ≢ b) (a ≡ b)
+  told-apart a b w = go (ltb (kind .size a) (kind .size b)) refl
     where
-      go : (kind .size a < kind .size b) ⊎ (kind .size b ≤ kind .size a) → kind .size a < kind .size b
-      go (inl h) = h
-      go (inr h) = absurd (f (size-level a b w (omega (arith, size-within a b w))))
+      go : (t : Bool) → ltb (kind .size a) (kind .size b) ≡ t → When t (a ≢ b) (a ≡ b)
+      go true e = λ p. let n = ap (kind .size) p in let l = ltb-true (kind .size a) (kind .size b) e in omega arith
+      go false e = let l = ltb-false (kind .size a) (kind .size b) e in size-level a b w (omega (arith, size-within a b w))

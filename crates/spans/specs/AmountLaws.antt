@@ -3,15 +3,15 @@ use mathlib.Core.Path.{_≡_, refl, sym, _∙_, ap, subst}
 use mathlib.Core.HLevel.{isProp→PathP}
 use mathlib.Core.Logic.{_⊎_, inl, inr, ⊎-elim}
 use mathlib.Core.Bool.{Bool, true, false, cond, _&&_}
-use Prim.Native.Nat.{ℕ, suc, _+_, _-_, _≤_, _<_}
+use Prim.Native.Nat.{ℕ, suc, _+_, _-_, _≤_}
 use native.Mathlib.Omega.{arith}
 use lib.Dec.{T, T-prop}
-use lib.IntN.{ℤ, pos, negsuc, negℤ, _-ℤ_, _+ℤ_}
+use lib.IntN.{ℤ, pos, _-ℤ_, _+ℤ_}
 use lib.Signed.{leZ, _≤ℤ_, leZ-yes}
 use Rattle.std.specs.Numbers.{maxZ, minZ}
 use Rattle.std.proofs.shelf.Signed.{ints, clamps}
-use Rattle.spans.specs.Numbers.{Number, million, number, numbers, counted}
-use Rattle.spans.specs.Tests.{both, join, either, first, alike}
+use Rattle.spans.specs.Numbers.{Number, number, numbers, counted}
+use Rattle.spans.specs.Bools.{both, join, either, alike}
 use Rattle.spans.specs.Counts.{place, counted-none, counted-gap, counted-range}
 use Rattle.spans.specs.Bounds.{bounded, proper}
 use Rattle.spans.specs.BoundLaws.{Bounded, bounded-is, is-bounded}

@@ -1,6 +1,5 @@
 -- What an amount is. Assumes nothing.
-use mathlib.Core.Path.{_≡_}
-use mathlib.Core.Bool.{Bool, true, false, cond, _&&_}
+use mathlib.Core.Bool.{Bool, cond, _&&_}
 use Prim.Native.Nat.{ℕ}
 use lib.IntN.{ℤ, pos, negsuc, _-ℤ_, _+ℤ_}
 use lib.Signed.{leZ}
@@ -46,7 +45,6 @@ amountFrom floor ceiling = record {
 abbrev pub amountMeet : Amount → Amount → Amount
 amountMeet a b = amountFrom (maxZ (a .floor) (b .floor)) (minZ (a .ceiling) (b .ceiling))
 
--- an amount asked for is made with the floor and the ceiling given, or refused where these are no bounds for an amount
-abbrev pub Asked : ℤ → ℤ → Result Amount SpanRefusal → Type 0
-Asked floor ceiling (Ok a) = (bounded floor ceiling ≡ true) × (a .floor ≡ floor) × (a .ceiling ≡ ceiling)
-Asked floor ceiling (Err e) = (bounded floor ceiling ≡ false) × (e ≡ AmountBounds)
+-- an amount that is asked for: refused where these are no bounds for an amount
+abbrev pub asked : ℤ → ℤ → Result Amount SpanRefusal
+asked floor ceiling = cond (bounded floor ceiling) (Ok (amountFrom floor ceiling)) (Err AmountBounds)

@@ -5,7 +5,7 @@ use lib.Dec.{T}
 use lib.IntN.{ℤ, pos, negℤ}
 use lib.Signed.{leZ, _≤ℤ_, leZ-yes}
 use Rattle.spans.specs.Numbers.{million}
-use Rattle.spans.specs.Tests.{both, join, first}
+use Rattle.spans.specs.Bools.{both, join, first}
 use Rattle.spans.specs.Bounds.{bounded, proper}
 
 -- what `bounded` tests

@@ -2,19 +2,19 @@
 use mathlib.Core.Path.{_≡_, refl, sym, _∙_, ap, ap₂, subst}
 use mathlib.Core.HLevel.{isProp→PathP}
 use mathlib.Core.Logic.{⊎-elim}
-use mathlib.Core.Bool.{Bool, true, false, cond, _&&_}
+use mathlib.Core.Bool.{Bool, false, cond, _&&_}
 use Prim.Native.Nat.{ℕ, zero, suc, _+_, _-_, _%_, _^_, _≤_, _<_}
 use native.Mathlib.Nat.{add-zero, add-suc, mod-eq-of-lt}
 use native.Mathlib.Omega.{arith}
 use borrow.Author.Differences.{ints}
-use lib.Count.{ones, trailingZeros}
+use lib.Count.{ones}
 use lib.Dec.{T, T-prop, ltb→lt}
 use lib.IntN.{ℤ, pos, negsuc}
 use lib.Signed.{_≤ℤ_}
 use Rattle.std.proofs.shelf.Tests.{cases-lt}
 use Rattle.spans.specs.Numbers.{Number, million, number, numbers, counted}
 use Rattle.spans.specs.Counts.{counted-none, counted-next, counted-gap}
-use Rattle.spans.specs.Masks.{tokens, isMask, bit}
+use Rattle.spans.specs.Masks.{tokens, isMask}
 use Rattle.spans.specs.MaskLaws.{bit-above, same-bits, bit-and, ones-none, ones-next, lowest-bit}
 use Rattle.spans.specs.Choices.{choiceAdmits, choiceSize, choiceLeast, noChoice, choiceMeet}
 use Rattle.spans.specs.declared.choice.Choice.{Choice}

@@ -7,7 +7,7 @@ pub mod AmountKind
 pub mod Masks
 pub mod Choices
 pub mod ChoiceKind
-pub mod Tests
+pub mod Bools
 pub mod Counts
 pub mod BoundLaws
 pub mod AmountLaws

@@ -1,12 +1,12 @@
 -- What the bits of a mask tell: proofs, which stand in specs/ since the choices that are defined there hold them. Assumes nothing.
-use mathlib.Core.Path.{_≡_, refl, sym, _∙_, ap, ap₂, subst}
+use mathlib.Core.Path.{_≡_, refl, sym, _∙_, ap, subst}
 use mathlib.Core.Logic.{_⊎_, inl, inr}
-use mathlib.Core.Bool.{Bool, true, false, cond, _&&_}
-use Prim.Native.Nat.{ℕ, zero, suc, _+_, _*_, _/_, _%_, _^_, _≤_, _<_, min}
+use mathlib.Core.Bool.{false, cond, _&&_}
+use Prim.Native.Nat.{ℕ, zero, suc, _+_, _/_, _%_, _^_, _≤_, _<_, min}
 use native.Mathlib.Nat.{not-suc-le-zero, le-of-suc-le-suc, div-eq-of-lt, lt-of-lt-of-le, mod-lt}
 use native.Mathlib.Numerals.{one-add}
 use native.Mathlib.Omega.{arith}
-use lib.Dec.{T, eqb, ltb, lt→ltb, ltb→lt, lit<}
+use lib.Dec.{T, eqb, lt→ltb, ltb→lt, lit<}
 use lib.Bits.{bitAnd, and-lt, and-shr, and-step}
 use lib.Count.{ones, onesIn, ones-cat, trailingZeros, under}
 use lib.Pow.{pow-mono}

@@ -4,10 +4,11 @@ use Prim.Native.Nat.{ℕ, zero, suc, _+_}
 use lib.IntN.{ℤ, pos, negℤ, _-ℤ_}
 use lib.Signed.{_≤ℤ_}
 
+-- a million: the numbers reach down to -million
 abbrev pub million : ℕ
 million = 1_000_000
 
--- the greatest number; the least is -million
+-- the numbers reach up to this
 abbrev pub top : ℕ
 top = million
 
@@ -24,7 +25,7 @@ number i = pos i -ℤ pos million
 abbrev pub numbers : ℕ
 numbers = suc (million + top)
 
--- how many of the first n numbers pass the test; shut, so that nothing takes two million steps
+-- how many of the first n numbers pass the test; this stays shut, so that no check takes two million steps
 unfoldable pub counted : (ℤ → Bool) → ℕ → ℕ
 counted test zero = 0
 counted test (suc n) = counted test n + cond (test (number n)) 1 0

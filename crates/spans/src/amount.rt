@@ -15,12 +15,14 @@ pub struct Amount {
 }
 
 impl Amount {
+    // The least number admitted; 1 where the amount is empty.
     pub fn floor(self) -> i32
         ensures { λ r. ⌜ r ≡ self .floor ⌝ }
     {
         self.floor
     }
 
+    // The greatest number admitted; 0 where the amount is empty.
     pub fn ceiling(self) -> i32
         ensures { λ r. ⌜ r ≡ self .ceiling ⌝ }
     {

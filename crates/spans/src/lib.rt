@@ -1,9 +1,9 @@
 // Spans: sets of numbers. A number is a whole number from -1,000,000 to 1,000,000.
 ghost use mathlib.Core.Path.{_≡_};
 ghost use mathlib.Core.Logic.{_≢_};
-ghost use Prim.Native.Nat.{ℕ, _≤_};
+ghost use Prim.Native.Nat.{_≤_};
 ghost use lib.Dec.{eqb, ltb};
-ghost use Rattle.std.specs.Orderings.{Decides};
+ghost use Rattle.std.specs.Orderings.{Decides, When};
 ghost use Rattle.spans.specs.Kind.{Kind, leastOf, Empty, Single, Within};
 
 pub mod amount;
@@ -21,7 +21,7 @@ mod tests;
 
 // A span is a set of numbers, and is known by which numbers it admits.
 pub trait Span: Copy {
-    // what a span of this kind means, with the laws of spans
+    // What the spans of this kind mean, with the laws that they keep.
     ghost kind: { Kind Self };
 
     // The common part: it admits exactly what both admit.
@@ -56,11 +56,12 @@ pub trait Span: Copy {
         self.count() == 1
     }
 
-    // Whether fewer numbers are admitted than the other span admits. Of a span within the other, this says that the two differ.
+    // Whether fewer numbers are admitted than the other span admits. Where the other admits them all, true says that the two
+    // spans differ, and false that they are the same.
     fn is_narrower(self, other: Self) -> bool
         ensures count { λ r. ⌜ r ≡ ltb (kind .size self) (kind .size other) ⌝ }
-        ensures within { λ _. ⌜ (Within kind self other → kind .size self ≤ kind .size other) ⌝ }
-        ensures differs { λ r. ⌜ (Within kind self other → Decides r (self ≢ other)) ⌝ }
+        ensures most { λ _. ⌜ (Within kind self other → kind .size self ≤ kind .size other) ⌝ }
+        ensures means { λ r. ⌜ (Within kind self other → When r (self ≢ other) (self ≡ other)) ⌝ }
     {
         self.count() < other.count()
     }

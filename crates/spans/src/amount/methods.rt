@@ -2,8 +2,9 @@
 ghost use mathlib.Core.Path.{_≡_};
 ghost use mathlib.Core.Bool.{_&&_};
 ghost use lib.IntN.{ℤ};
+ghost use Rattle.std.specs.Vec.{made};
 ghost use Rattle.spans.specs.Bounds.{bounded};
-ghost use Rattle.spans.specs.Amounts.{Asked, amountAdmits, amountFrom, fromTo, noAmount};
+ghost use Rattle.spans.specs.Amounts.{asked, amountAdmits, amountFrom, fromTo, noAmount};
 ghost use Rattle.spans.specs.AmountKind.{amounts};
 use super::Amount;
 use crate::Span;
@@ -19,9 +20,10 @@ fn are_bounds(floor: i32, ceiling: i32) -> bool
 }
 
 impl Amount {
-    // The amount from the floor to the ceiling.
+    // The amount from the floor to the ceiling, unless the floor is above the ceiling or one of them is beyond a million.
     pub fn new(floor: i32, ceiling: i32) -> Result<Amount, SpanRefusal>
-        ensures { λ r. ⌜ Asked floor ceiling r ⌝ }
+        ensures value { λ r. ⌜ r ≡ asked floor ceiling ⌝ }
+        ensures ends { λ r. ⌜ made r (λ a. (a .floor ≡ floor) × (a .ceiling ≡ ceiling)) ⌝ }
     {
         if are_bounds(floor, ceiling) {
             Ok(Amount { floor, ceiling })

@@ -1,6 +1,6 @@
 use borrow.Author.Needs.{needs}
-use mathlib.Core.Path.{_≡_, _∙_, ap}
-use Rattle.spans.specs.Amounts.{amountAdmits, amountFrom}
+use mathlib.Core.Path.{_∙_, ap}
+use Rattle.spans.specs.Amounts.{amountAdmits}
 use Rattle.spans.specs.AmountLaws.{from-admits}
 use Rattle.spans.specs.declared.amount.Amount.{Amount}
 use Rattle.spans.proofs.Amounting.{from-made, from-empty}

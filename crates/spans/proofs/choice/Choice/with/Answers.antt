@@ -1,16 +1,16 @@
+use borrow.Author.Needs.{needs}
 use mathlib.Core.Path.{_∙_, ap}
 use mathlib.Core.Bool.{Bool, _||_}
-use Prim.Native.Nat.{_^_}
 use lib.Bits.{bitOr}
-use lib.Dec.{eqb, lt→ltb}
+use lib.Dec.{eqb}
 use Rattle.std.proofs.shelf.Bits.{or-lt}
 use Rattle.spans.specs.Masks.{tokens, bit}
 use Rattle.spans.specs.ChoiceLaws.{mask-below}
-use Rattle.spans.proofs.Masking.{bit-or, bits-by, at-token}
+use Rattle.spans.proofs.Masking.{or-mask, bit-or, bits-by, at-token}
 use Rattle.spans.proofs.choice.Choice.with.Needs as need
 
 pub ghost-result : need.ghost-result
-ghost-result c = (lt→ltb _ (2 ^ tokens) (or-lt tokens (c .args .self .mask) (c .mask-of .result) (mask-below (c .args .self)) (c .mask-of .ok)), tt)
+ghost-result c = search (needs, or-mask)
 
 pub returns : need.returns
 returns c =
