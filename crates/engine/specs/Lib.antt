@@ -5,3 +5,4 @@ pub mod Settling
 pub mod Skims
 pub mod Calls
 pub mod History
+pub mod Lent
