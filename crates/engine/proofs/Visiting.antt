@@ -83,10 +83,13 @@ module _ {S : Type 0} (kind : Kind S) where
     rule-visited r b w s n = cond-false _ _ _ (ne-eqb (getD w r 0) 0 n)
 
     module _ (law : Lawful kind book) where
-      -- an answer of a rule at a place of it has no more numbers than the span there
-      pub answer-size : (r i : ℕ) (b : List S) → r < book .rules → i < length (book .rule r .scope) → Full kind (book .places) b → (getD (book .rule r .scope) i 0 < book .places) × (kind .size (book .rule r .answer (getD (book .rule r .scope) i 0) b) ≤ kind .size (spanAt kind b (getD (book .rule r .scope) i 0)))
-      answer-size r i b h l f =
-          let sound = law .each r h in
-          let p = getD (book .rule r .scope) i 0 in
-          let counted = sound .counted p (among-at (book .rule r .scope) i l) in
-          (counted, size-within kind (book .rule r .answer p b) (spanAt kind b p) (sound .narrows p b counted f))
+      -- a place of a rule is a place of the board, and the answer there has no more numbers than the span
+      module _ (r i p : ℕ) (b : List S) (counted-rule : r < book .rules) (in-scope : i < length (book .rule r .scope)) (place : p ≡ getD (book .rule r .scope) i 0) (full : Full kind (book .places) b) where
+        pub place-counted : p < book .places
+        place-counted = subst (λ (q : ℕ). q < book .places) (sym place) (law .each r counted-rule .counted (getD (book .rule r .scope) i 0) (among-at (book .rule r .scope) i in-scope))
+
+        pub place-within : p < length b
+        place-within = omega (arith, place-counted, full .long)
+
+        pub answer-size : kind .size (book .rule r .answer p b) ≤ kind .size (spanAt kind b p)
+        answer-size = size-within kind (book .rule r .answer p b) (spanAt kind b p) (law .each r counted-rule .narrows p b place-counted full)
