@@ -1,1 +1,3 @@
 pub mod Visiting
+pub mod Falling
+pub mod Filling

@@ -34,7 +34,12 @@ pub(crate) fn fill(waiting: &mut [u8], rules: RuleNumber, value: u8)
 
 // One sweep over the rules that wait, by rising number, each rule's places in its order. It goes on from so many strikes.
 // A rule waits no more when its visit begins; a strike makes every rule of its place wait.
-pub(crate) fn sweep<B: Book>(book: &B, board: &mut [B::Span], waiting: &mut [u8], start: Strikes) -> Result<Strikes, EmptiedBy>
+pub(crate) fn sweep<B: Book>(
+    book: &B,
+    board: &mut [B::Span],
+    waiting: &mut [u8],
+    start: Strikes,
+) -> Result<Strikes, EmptiedBy>
     requires full { ⌜ Full (Span·Span .kind) (B·Book .meaning (now book) .places) (now board) ⌝ }
     requires waiting { ⌜ B·Book .meaning (now book) .rules ≤ length (now waiting) ⌝ }
     requires few { ⌜ total (Span·Span .kind) (now board) + start ≤ 2000001 * 254 ⌝ }
@@ -71,7 +76,11 @@ pub(crate) fn sweep<B: Book>(book: &B, board: &mut [B::Span], waiting: &mut [u8]
 }
 
 // Sweeps until one has no strike; every rule waits at first.
-pub(crate) fn settle<B: Book>(book: &B, board: &mut [B::Span], waiting: &mut [u8]) -> Result<Strikes, EmptiedBy>
+pub(crate) fn settle<B: Book>(
+    book: &B,
+    board: &mut [B::Span],
+    waiting: &mut [u8],
+) -> Result<Strikes, EmptiedBy>
     requires full { ⌜ Full (Span·Span .kind) (B·Book .meaning (now book) .places) (now board) ⌝ }
     requires waiting { ⌜ B·Book .meaning (now book) .rules ≤ length (now waiting) ⌝ }
     ensures { λ r. ⌜ skimTold r (now (board .exit)) (now (waiting .exit)) ≡ skimmed (Span·Span .kind) (B·Book .meaning (now (book .entry))) (now (board .entry)) (now (waiting .entry)) ⌝ }

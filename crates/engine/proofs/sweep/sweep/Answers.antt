@@ -82,24 +82,22 @@ loop-i-again g c =
     elim (c .if-is-narrower .came) [
       | then-is-narrower w ↦
           let less : kind .size new < kind .size old = ltb-true (kind .size new) (kind .size old) (sym (c .is-narrower .ensures .count) ∙ w .if-is-narrower .taken) in
-          let woke : c .if-is-narrower .waiting ≡ woken book p (l .waiting) = w .waiting-is ∙ w .wake .ensures in
-          (
+          let woke : c .if-is-narrower .waiting ≡ woken book p (l .waiting) = w .waiting-is ∙ w .wake .ensures in (
             subst (Full kind (book .places)) (sym (w .board-is)) (full-set kind (book .places) (l .board) p new (l .inv .0) counted (omega (arith, some))),
             omega (arith, ap (total kind) (w .board-is), w .strikes-is, total-set kind (l .board) p new within, ap (kind .size) was, less, l .inv .1),
             l .inv .2,
             omega (arith, ap length woke, length-woken book p (l .waiting), l .inv .3),
             l .inv .4 ∙ tend-strikes kind book r scope (l .i) (l .board) (l .waiting) (l .strikes) in-scope new old p (c .scope-at-place .ensures) (c .answer-new .ensures) was some less
-            ∙ sym (swap (w .board-is) woke (w .strikes-is)),
+                ∙ sym (swap (w .board-is) woke (w .strikes-is)),
           )
       | else-is-narrower w ↦
-          let more : kind .size old ≤ kind .size new = ltb-false (kind .size new) (kind .size old) (sym (c .is-narrower .ensures .count) ∙ w .if-is-narrower .left) in
-          (
+          let more : kind .size old ≤ kind .size new = ltb-false (kind .size new) (kind .size old) (sym (c .is-narrower .ensures .count) ∙ w .if-is-narrower .left) in (
             subst (Full kind (book .places)) (sym (w .board-is)) (l .inv .0),
             omega (arith, ap (total kind) (w .board-is), w .strikes-is, l .inv .1),
             l .inv .2,
             omega (arith, ap length (w .waiting-is), l .inv .3),
             l .inv .4 ∙ tend-leaves kind book r scope (l .i) (l .board) (l .waiting) (l .strikes) in-scope new old p (c .scope-at-place .ensures) (c .answer-new .ensures) was some more
-            ∙ sym (swap (w .board-is) (w .waiting-is) (w .strikes-is)),
+                ∙ sym (swap (w .board-is) (w .waiting-is) (w .strikes-is)),
           )
     ]
   where
@@ -116,7 +114,7 @@ loop-rule-again g c =
     let l = c .loop-i in
     let h : r .rule < book .rules = omega arith in
     let visited : tendRule kind book (r .rule) (r .board) (r .waiting) (r .strikes) ≡ onward (l .board) (l .waiting) (l .strikes) =
-      rule-visited kind book (r .rule) (r .board) (r .waiting) (r .strikes) (c .if-waiting-rule-eq0 .left) ∙ l .inv .4 ∙ tend-end kind book (r .rule) (book .rule (r .rule) .scope) (l .i) (l .board) (l .waiting) (l .strikes) (omega arith) in
+    rule-visited kind book (r .rule) (r .board) (r .waiting) (r .strikes) (c .if-waiting-rule-eq0 .left) ∙ l .inv .4 ∙ tend-end kind book (r .rule) (book .rule (r .rule) .scope) (l .i) (l .board) (l .waiting) (l .strikes) (omega arith) in
     (l .inv .0, l .inv .1, r .inv .2, l .inv .3, r .inv .4 ∙ skim-at kind book (r .rule) (r .board) (r .waiting) (r .strikes) h ∙ ap (λ s. onThen s (skimFrom kind book (book .rules - (r .rule + 1)) (r .rule + 1))) visited)
 
 -- what was broken off with is what arrives
@@ -142,9 +140,9 @@ returns-in-Some g c =
           let was : old ≡ spanAt kind (l .board) p = w .index-board-place .is ∙ getD-default (l .board) p old (kind .none) within in
           let none : kind .size new ≡ 0 = eqb-true (kind .size new) 0 (sym (w .is-empty .ensures .count) ∙ w .if-is-empty .taken) in
           let visited : tendRule kind book (r .rule) (r .board) (r .waiting) (r .strikes) ≡ halted p (r .rule) =
-            rule-visited kind book (r .rule) (r .board) (r .waiting) (r .strikes) (w .if-waiting-rule-eq0 .left) ∙ l .inv .4 ∙ tend-empties kind book (r .rule) scope (l .i) (l .board) (l .waiting) (l .strikes) in-scope new old p (w .scope-at-place .ensures) (w .answer-new .ensures) was none in
+          rule-visited kind book (r .rule) (r .board) (r .waiting) (r .strikes) (w .if-waiting-rule-eq0 .left) ∙ l .inv .4 ∙ tend-empties kind book (r .rule) scope (l .i) (l .board) (l .waiting) (l .strikes) in-scope new old p (w .scope-at-place .ensures) (w .answer-new .ensures) was none in
           let whole : skim kind book (c .args .board .now) (c .args .waiting .now) (c .args .start) ≡ halted p (r .rule) =
-            r .inv .4 ∙ skim-at kind book (r .rule) (r .board) (r .waiting) (r .strikes) h ∙ ap (λ s. onThen s (skimFrom kind book (book .rules - (r .rule + 1)) (r .rule + 1))) visited in
+          r .inv .4 ∙ skim-at kind book (r .rule) (r .board) (r .waiting) (r .strikes) h ∙ ap (λ s. onThen s (skimFrom kind book (book .rules - (r .rule + 1)) (r .rule + 1))) visited in
           same-stop (c .loop-rule-test .emptied) (c .in-Some .by) (record { place = p; rule = r .rule }) (c .in-Some .is) (w .emptied-is) ∙ sym whole
       | else-loop-rule-test w ↦ cc
     ]
@@ -159,6 +157,6 @@ returns-in-None g c =
       | then-loop-rule-test·else-waiting-rule-eq0·then-loop-i-test·then-is-empty w ↦ cc
       | else-loop-rule-test w ↦
           let whole : skim kind book (c .args .board .now) (c .args .waiting .now) (c .args .start) ≡ onward (r .board) (r .waiting) (r .strikes) =
-            r .inv .4 ∙ skim-end kind book (r .rule) (r .board) (r .waiting) (r .strikes) (omega (arith, w .loop-rule-test .left)) in
+          r .inv .4 ∙ skim-end kind book (r .rule) (r .board) (r .waiting) (r .strikes) (omega (arith, w .loop-rule-test .left)) in
           cc whole
     ]
