@@ -1,0 +1,4 @@
+pub mod Boards
+pub mod Cuts
+pub mod Among
+pub mod Sweeping

@@ -1,0 +1,4 @@
+use Rattle.engine.proofs.laws.passing_law.Needs as need
+
+pub returns : need.returns
+returns g c = ?
