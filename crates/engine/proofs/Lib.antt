@@ -2,3 +2,4 @@ pub mod Boards
 pub mod Cuts
 pub mod Among
 pub mod Sweeping
+pub mod Verdicts
