@@ -3,3 +3,4 @@ pub mod Cuts
 pub mod Among
 pub mod Sweeping
 pub mod Verdicts
+pub mod Histories
