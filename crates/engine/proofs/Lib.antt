@@ -4,3 +4,5 @@ pub mod Among
 pub mod Sweeping
 pub mod Verdicts
 pub mod Histories
+pub mod Finishing
+pub mod Law
