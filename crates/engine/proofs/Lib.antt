@@ -6,3 +6,5 @@ pub mod Verdicts
 pub mod Histories
 pub mod Finishing
 pub mod Law
+pub mod Waits
+pub mod Passing
