@@ -8,3 +8,4 @@ pub mod Finishing
 pub mod Law
 pub mod Waits
 pub mod Passing
+pub mod Turns
