@@ -1,3 +1,14 @@
 pub mod Visiting
 pub mod Falling
 pub mod Filling
+pub mod Boards
+pub mod Cuts
+pub mod Among
+pub mod Sweeping
+pub mod Verdicts
+pub mod Histories
+pub mod Finishing
+pub mod Law
+pub mod Waits
+pub mod Passing
+pub mod Turns
