@@ -12,7 +12,7 @@ use lib.ListN.{length, set, length-set}
 use Rattle.std.proofs.shelf.Lists.{ext-getD, getD-set-same, getD-set-other}
 use Rattle.std.proofs.shelf.Tests.{eqb-true, eqb-false, ne-eqb, cases-eq}
 use Rattle.spans.specs.Kind.{Kind, Within}
-use Rattle.spans.specs.Tests.{both, join, alike}
+use Rattle.spans.specs.Bools.{both, join, alike}
 use Rattle.spans.proofs.Sizes.{size-some, some-least, size-within, size-level}
 use Rattle.books.specs.Boards.{spanAt, numberAt, Full, Inside, On}
 use Rattle.books.specs.Sweeps.{total}

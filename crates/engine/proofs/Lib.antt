@@ -1,6 +1,7 @@
 pub mod Visiting
 pub mod Falling
 pub mod Filling
+pub mod Lowest
 pub mod Boards
 pub mod Cuts
 pub mod Among

@@ -1,5 +1,6 @@
 // The engine: calls on a position, for every kind of span and every rule book.
 pub mod laws;
+pub mod position;
 pub mod refusal;
 pub mod sweep;
 

@@ -1,0 +1,1 @@
+use Rattle.engine.proofs.position.settling.prepare.Needs as need
