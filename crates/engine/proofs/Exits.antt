@@ -1,12 +1,12 @@
 -- The ways out of each call: by its tests, what it comes to. Assumes nothing.
-use mathlib.Core.Path.{_≡_, refl, sym, _∙_, ap}
+use mathlib.Core.Path.{_≡_, refl, _∙_, ap}
 use mathlib.Core.Logic.{_⊎_, inl, inr}
-use mathlib.Core.Bool.{Bool, true, false, cond, not, _&&_}
+use mathlib.Core.Bool.{Bool, true, false, not, _&&_}
 use mathlib.Core.List.{List, [], _∷_}
 use Prim.Native.Nat.{ℕ, zero, suc, _+_, _*_, _≤_, _<_}
 use native.Mathlib.Nat.{not-suc-le-zero, le-of-suc-le-suc}
 use native.Mathlib.Omega.{arith}
-use lib.Dec.{leb, ltb, eqb}
+use lib.Dec.{leb, eqb}
 use lib.IntN.{ℤ, pos}
 use lib.ListN.{length, getD}
 use Rattle.std.proofs.shelf.Lists.{getD-past}
@@ -16,10 +16,10 @@ use Rattle.spans.specs.Kind.{Kind}
 use Rattle.spans.proofs.Sizes.{empty-zero}
 use Rattle.books.specs.Boards.{spanAt, Full}
 use Rattle.books.specs.Meaning.{Meaning}
-use Rattle.books.specs.Sweeps.{Outcome, emptied, left, settle}
-use Rattle.engine.specs.declared.refusal.Refusal.the-variants.{TooShort, OtherBook, NoSuchPlace, EmptySpan, NothingShared, Emptied, KeepFull, NoMark, NotOneNumber}
+use Rattle.books.specs.Sweeps.{Outcome, settle}
+use Rattle.engine.specs.declared.refusal.Refusal.the-variants.{TooShort, OtherBook, NoSuchPlace, EmptySpan, NothingShared, KeepFull, NoMark, NotOneNumber}
 use Rattle.engine.specs.Limits.{Limit, shared, cutOne}
-use Rattle.engine.specs.Calls.{Memory, State, Reply, refuse, shown, lowestWith, Verdict, denied, allowed, judged, whole, openVerdict, limitVerdict, enough, replied, fresh, openReply, limitReply, holds, marked, markReply, backTo, backReply, checkAnswer, lowest}
+use Rattle.engine.specs.Calls.{Memory, State, refuse, shown, lowestWith, Verdict, denied, judged, whole, openVerdict, limitVerdict, enough, replied, fresh, openReply, limitReply, holds, marked, markReply, backTo, backReply, checkAnswer, lowest}
 use Rattle.engine.specs.History.{handed}
 use Rattle.engine.proofs.Verdicts.{hole, whole-full}
 

@@ -7,12 +7,12 @@ use Prim.Native.Nat.{ℕ, zero, suc, _+_, _≤_, _<_}
 use native.Mathlib.Nat.{not-suc-le-zero, add-zero, zero-add, suc-add, add-suc}
 use native.Mathlib.Numerals.{add-one}
 use native.Mathlib.Omega.{arith}
-use lib.Dec.{T, eqb, ltb}
+use lib.Dec.{eqb, ltb}
 use lib.ListN.{length, getD, set, length-set}
 use Rattle.std.proofs.shelf.Lists.{set-getD, getD-set-same, getD-set-other}
-use Rattle.std.proofs.shelf.Tests.{ltb-true, ltb-false, le-ltb, eqb-true, eqb-false, cases-eq, cases-lt}
+use Rattle.std.proofs.shelf.Tests.{ltb-false, le-ltb, eqb-true, eqb-false, cases-eq}
 use Rattle.spans.specs.Kind.{Kind}
-use Rattle.books.specs.Boards.{Among, has, spanAt, Full}
+use Rattle.books.specs.Boards.{Among, spanAt, Full}
 use Rattle.books.specs.Meaning.{Meaning, Sound, Lawful}
 use Rattle.books.specs.Sweeps.{Visit, visits, Outcome, emptied, left, then, strike, total, walk, sweep, sweeps, settle}
 use Rattle.books.specs.Waking.{woken}
