@@ -7,12 +7,12 @@ use native.Mathlib.Nat.{not-suc-le-zero, le-of-suc-le-suc}
 use native.Mathlib.Omega.{arith}
 use lib.Dec.{T, leb, ltb, eqb}
 use lib.IntN.{ℤ, pos}
-use lib.ListN.{length, take, drop}
+use lib.ListN.{length, drop}
 use Rattle.std.proofs.shelf.Tests.{leb-true, ltb-false, eqb-true, and-parts, not-false}
 use Rattle.std.specs.declared.result.Result.the-variants.{Ok, Err}
 use Rattle.spans.specs.Kind.{Kind}
 use Rattle.spans.proofs.Sizes.{some-least}
-use Rattle.books.specs.Boards.{spanAt, numberAt, Full, On}
+use Rattle.books.specs.Boards.{spanAt, numberAt, On}
 use Rattle.books.specs.Meaning.{Meaning, Lawful}
 use Rattle.books.specs.Settled.{Settled}
 use Rattle.engine.specs.declared.refusal.Refusal.the-variants.{TooShort, NotOneNumber}

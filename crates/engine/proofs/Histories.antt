@@ -6,11 +6,11 @@ use mathlib.Core.List.{List, [], _∷_, _++_}
 use Prim.Native.Nat.{ℕ, zero, suc, _+_, _*_, _≤_, _<_}
 use native.Mathlib.Nat.{zero-add, suc-add, suc-mul}
 use native.Mathlib.Omega.{arith}
-use lib.Dec.{T, leb, ltb, eqb}
+use lib.Dec.{T, leb, ltb}
 use lib.ListN.{length, take, drop, replicate, length-append, length-take, length-drop, length-replicate}
 use lib.Seq.{take-nil, take-at, drop-at, take-take, length-take-le}
 use Rattle.std.proofs.shelf.Tests.{lt-ltb, le-ltb, le-leb, leb-true, eq-eqb, and-parts, cases-lt}
-use Rattle.std.specs.declared.result.Result.the-variants.{Ok, Err}
+use Rattle.std.specs.declared.result.Result.the-variants.{Ok}
 use Rattle.spans.specs.Kind.{Kind}
 use Rattle.books.specs.Meaning.{Meaning, Lawful}
 use Rattle.books.specs.Settled.{Some-settled}
@@ -19,7 +19,7 @@ use Rattle.engine.specs.Limits.{Limit, cut}
 use Rattle.engine.specs.Waiting.{filled}
 use Rattle.engine.specs.Calls.{Memory, State, Reply, refuse, shown, Verdict, denied, allowed, openVerdict, limitVerdict, enough, laid, settledOn, replied, fresh, openReply, limitReply, holds, marked, markReply, backTo, backReply}
 use Rattle.engine.specs.History.{Granted, Refused, Move, limiting, marking, backing, Force, joins, lays, takes, Story, advance, play, handed, history}
-use Rattle.engine.proofs.Boards.{T-of, is-true}
+use Rattle.engine.proofs.Boards.{is-true}
 use Rattle.engine.proofs.Verdicts.{Stands, Good-verdict, open-good, limit-good}
 
 -- a part of a list is the end of the list cut off behind the part

@@ -13,3 +13,4 @@ pub mod Law
 pub mod Waits
 pub mod Passing
 pub mod Turns
+pub mod Exits

@@ -7,18 +7,18 @@ use Prim.Native.Nat.{ℕ, zero, suc, _+_, _≤_, _<_}
 use native.Mathlib.Nat.{not-suc-le-zero, add-zero, zero-add, suc-add, add-suc}
 use native.Mathlib.Numerals.{add-one}
 use native.Mathlib.Omega.{arith}
-use lib.Dec.{T, eqb, ltb}
+use lib.Dec.{eqb, ltb}
 use lib.ListN.{length, getD, set, length-set}
 use Rattle.std.proofs.shelf.Lists.{set-getD, getD-set-same, getD-set-other}
-use Rattle.std.proofs.shelf.Tests.{ltb-true, ltb-false, le-ltb, eqb-true, eqb-false, cases-eq, cases-lt}
+use Rattle.std.proofs.shelf.Tests.{ltb-false, le-ltb, eqb-true, eqb-false, cases-eq}
 use Rattle.spans.specs.Kind.{Kind}
-use Rattle.books.specs.Boards.{Among, has, spanAt, Full}
+use Rattle.books.specs.Boards.{Among, spanAt, Full}
 use Rattle.books.specs.Meaning.{Meaning, Sound, Lawful}
 use Rattle.books.specs.Sweeps.{Visit, visits, Outcome, emptied, left, then, strike, total, walk, sweep, sweeps, settle}
 use Rattle.books.specs.Waking.{woken}
 use Rattle.books.proofs.Places.{among-has}
 use Rattle.books.proofs.Wakes.{length-woken, woken-rest}
-use Rattle.engine.specs.Waiting.{filled, allWait}
+use Rattle.engine.specs.Waiting.{allWait, noneWait}
 use Rattle.engine.specs.Skims.{Skim, halted, onward, onThen, bare, tend, tendRule, skimFrom, skim, skims, skimmed, Rests, Passing-law}
 use Rattle.engine.proofs.Boards.{not-T-of, some-size, not-empty, as-many, full-set}
 use Rattle.engine.proofs.Among.{visitOf}
@@ -374,3 +374,11 @@ module _ {S : Type 0} (kind : Kind S) (book : Meaning S) where
       same = λ b w f h. skimmed-is b w f h .0;
       rests = λ b w f h. rests-of w h (skimmed kind book b w) (skimmed-is b w f h .1);
     }
+
+    -- what settling comes to, by what the sweeps come to that pass over rules
+    pub settled-by : (b : List S) (w : List ℕ) (c : List S) (v : List ℕ) (s : ℕ) → Full kind (book .places) b → book .rules ≤ length w → skimmed kind book b w ≡ onward c v s
+        → (settle kind book b ≡ left c s) × (v ≡ noneWait (book .rules) w)
+    settled-by b w c v s f h e = (sym (passing-law .same b w f h) ∙ ap bare e, subst (Rests kind book w) e (passing-law .rests b w f h))
+
+    pub emptied-by : (b : List S) (w : List ℕ) (p r : ℕ) → Full kind (book .places) b → book .rules ≤ length w → skimmed kind book b w ≡ halted p r → settle kind book b ≡ emptied p r
+    emptied-by b w p r f h e = sym (passing-law .same b w f h) ∙ ap bare e

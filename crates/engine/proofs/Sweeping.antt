@@ -14,11 +14,11 @@ use Rattle.std.proofs.shelf.Tests.{ltb-true, ltb-false, eqb-true, eqb-false, ca
 use Rattle.spans.specs.Kind.{Kind, Within}
 use Rattle.spans.proofs.Sizes.{some-least, size-within}
 use Rattle.books.specs.Boards.{Among, has, spanAt, numberAt, Full, Inside, On}
-use Rattle.books.specs.Meaning.{Meaning, Rule, Sound, Lawful}
-use Rattle.books.specs.Settled.{Settled, Widest, Some-settled}
+use Rattle.books.specs.Meaning.{Meaning, Sound, Lawful}
+use Rattle.books.specs.Settled.{Settled, Widest}
 use Rattle.books.specs.Sweeps.{Visit, visits, Outcome, emptied, left, then, strike, total, walk, sweep, sweeps, settle}
 use Rattle.books.proofs.Places.{has-among, among-has}
-use Rattle.engine.specs.Settling.{Obeys, Left, Hopeless, Ends, Sweeps-law}
+use Rattle.engine.specs.Settling.{Obeys, Hopeless, Ends, Sweeps-law}
 use Rattle.engine.proofs.Boards.{T-of, not-T-of, empty-size, some-size, zero-none, as-many, inside-trans, inside-set, into-set, on-set, full-set, total-set}
 use Rattle.engine.proofs.Among.{among-split, visitOf, visits-counted, visits-all}
 

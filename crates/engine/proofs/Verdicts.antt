@@ -1,6 +1,6 @@
 -- The verdicts of opening and limit: the board allowed is the widest settled one, and where they deny there is none. Assumes nothing.
-use mathlib.Core.Path.{_≡_, refl, sym, _∙_, ap}
-use mathlib.Core.Logic.{_⊎_, inl, inr}
+use mathlib.Core.Path.{_≡_, refl, ap}
+use mathlib.Core.Logic.{inl, inr}
 use mathlib.Core.Bool.{Bool, true, false, cond}
 use mathlib.Core.List.{List, [], _∷_}
 use Prim.Native.Nat.{ℕ, zero, suc, _≤_, _<_}
@@ -11,8 +11,8 @@ use lib.IntN.{ℤ}
 use lib.ListN.{length, getD}
 use Rattle.std.proofs.shelf.Lists.{getD-set-same}
 use Rattle.std.proofs.shelf.Tests.{ltb-true, ltb-false}
-use Rattle.spans.specs.Kind.{Kind, Within}
-use Rattle.books.specs.Boards.{Among, spanAt, numberAt, Full, Inside, On}
+use Rattle.spans.specs.Kind.{Kind}
+use Rattle.books.specs.Boards.{spanAt, numberAt, Full, Inside, On}
 use Rattle.books.specs.Meaning.{Meaning, Lawful}
 use Rattle.books.specs.Settled.{Settled, Widest, Some-settled}
 use Rattle.books.specs.Sweeps.{Outcome, emptied, left, settle}

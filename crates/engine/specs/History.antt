@@ -17,7 +17,7 @@ use Rattle.engine.specs.declared.refusal.Refusal.{Refusal}
 use Rattle.engine.specs.declared.refusal.Refusal.the-variants.{NoSuchPlace, KeepFull, NoMark}
 use Rattle.engine.specs.Limits.{Limit, cut, Limited}
 use Rattle.engine.specs.Settling.{Obeys}
-use Rattle.engine.specs.Calls.{Memory, State, Reply, shown, enough, openReply, limitReply, markReply, backReply, checkAnswer, finishList}
+use Rattle.engine.specs.Calls.{Memory, State, shown, enough, openReply, limitReply, markReply, backReply, checkAnswer, finishList}
 
 -- the call was granted
 abbrev pub Granted : {A : Type 0} → Result A Refusal → Type 0
