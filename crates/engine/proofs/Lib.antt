@@ -14,3 +14,4 @@ pub mod Waits
 pub mod Passing
 pub mod Turns
 pub mod Exits
+pub mod Attempting
