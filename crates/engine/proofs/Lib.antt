@@ -15,3 +15,6 @@ pub mod Passing
 pub mod Turns
 pub mod Exits
 pub mod Attempting
+pub mod Calling
+pub mod Opening
+pub mod Limiting
