@@ -2,8 +2,8 @@
 use mathlib.Core.Path.{_≡_}
 use mathlib.Core.List.{List, []}
 use mathlib.Core.Bool.{cond, _&&_}
-use Prim.Native.Nat.{ℕ}
-use lib.Dec.{eqb, ltb}
+use Prim.Native.Nat.{ℕ, _*_}
+use lib.Dec.{eqb, leb, ltb}
 use lib.IntN.{ℤ}
 use lib.ListN.{length}
 use Rattle.books.specs.Meaning.{Meaning}
@@ -78,6 +78,10 @@ module _ {S : Type 0} (kind : Kind S) where
   -- and finish writes the list so
   abbrev pub Finish-call : Position → List S → List ℤ → List ℤ → Type 0
   Finish-call position board list after = (working : List S) (waiting : List ℕ) (keep : List S) → after ≡ finishList kind (at position board working waiting keep) list
+
+-- the check of mark and back: a board of so many spans, and a keep of so many
+abbrev pub keepChecked : Position → ℕ → ℕ → Result (Unit {0}) Refusal
+keepChecked position board keep = cond (leb (position .places) board && leb (position .marks * position .places) keep) (Ok tt) (Err TooShort)
 
 -- mark answers, counts its marks and leaves board and keep as its definition says, whatever the rest of the memory holds
 abbrev pub Mark-call : {S : Type 0} → Position → List S → List S → Result (Unit {0}) Refusal → Position → List S → Type 0

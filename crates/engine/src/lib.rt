@@ -1,4 +1,5 @@
 // The engine: calls on a position, for every kind of span and every rule book.
+mod keep;
 pub mod laws;
 pub mod position;
 pub mod refusal;

@@ -23,7 +23,10 @@ fn check_limit<B: Book>(position: &Position, book: &B, board: &[B::Span], workin
     if waiting.len() < position.rules as usize {
         return Err(Refusal::TooShort);
     }
-    if book.places() != position.places || book.rules() != position.rules {
+    if book.places() != position.places {
+        return Err(Refusal::OtherBook);
+    }
+    if book.rules() != position.rules {
         return Err(Refusal::OtherBook);
     }
     if place >= position.places {
