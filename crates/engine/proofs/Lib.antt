@@ -18,3 +18,5 @@ pub mod Attempting
 pub mod Calling
 pub mod Opening
 pub mod Limiting
+pub mod Writing
+pub mod Keeping

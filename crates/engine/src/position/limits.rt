@@ -11,7 +11,14 @@ use books::Place;
 use spans::Span;
 
 // Whether the memory and the book fit the position, and the place is one of it.
-fn check_limit<B: Book>(position: &Position, book: &B, board: &[B::Span], working: &[B::Span], waiting: &[u8], place: Place) -> Result<(), Refusal>
+fn check_limit<B: Book>(
+    position: &Position,
+    book: &B,
+    board: &[B::Span],
+    working: &[B::Span],
+    waiting: &[u8],
+    place: Place,
+) -> Result<(), Refusal>
     ensures { λ r. ⌜ r ≡ limitChecked (now (position .entry)) (B·Book .meaning (now (book .entry))) place (now (board .entry)) (now (working .entry)) (now (waiting .entry)) ⌝ }
 {
     if board.len() < position.places as usize {
@@ -36,7 +43,15 @@ fn check_limit<B: Book>(position: &Position, book: &B, board: &[B::Span], workin
 }
 
 // Cuts the place to its common part with the span, settles the board, and returns the strikes; the cut is none of them.
-pub fn limit<B: Book>(position: &Position, book: &B, board: &mut [B::Span], working: &mut [B::Span], waiting: &mut [u8], place: Place, span: B::Span) -> Result<Strikes, Refusal>
+pub fn limit<B: Book>(
+    position: &Position,
+    book: &B,
+    board: &mut [B::Span],
+    working: &mut [B::Span],
+    waiting: &mut [u8],
+    place: Place,
+    span: B::Span,
+) -> Result<Strikes, Refusal>
     ensures { λ r. ⌜ Limit-call (Span·Span .kind) (B·Book .meaning (now (book .entry))) (now (position .entry)) (record { place = place; span = span }) (lent (now (board .entry)) (now (working .entry)) (now (waiting .entry)) (now (board .entry))) r (now (board .exit)) (now (working .exit)) (now (waiting .exit)) ⌝ }
 {
     book.lawful();

@@ -16,7 +16,12 @@ pub struct Opened {
 }
 
 // Settles the board, as far as the book counts places. Its law is the law of all histories of the book.
-pub fn opening<B: Book>(book: &B, board: &mut [B::Span], working: &mut [B::Span], waiting: &mut [u8]) -> Result<Opened, Refusal>
+pub fn opening<B: Book>(
+    book: &B,
+    board: &mut [B::Span],
+    working: &mut [B::Span],
+    waiting: &mut [u8],
+) -> Result<Opened, Refusal>
     ensures call { λ r. ⌜ Opening-call (Span·Span .kind) (B·Book .meaning (now (book .entry))) (lent (now (board .entry)) (now (working .entry)) (now (waiting .entry)) (now (board .entry))) r (now (board .exit)) (now (working .exit)) (now (waiting .exit)) ⌝ }
     ensures law { λ _. ⌜ History-law (Span·Span .kind) (B·Book .meaning (now (book .entry))) ⌝ }
 {

@@ -32,7 +32,13 @@ fn lowest_empty<S: Span>(board: &[S]) -> usize
 }
 
 // Copies the board onto the working board and lets no rule wait; refused at the lowest empty span.
-pub(super) fn prepare<S: Span>(board: &[S], working: &mut [S], waiting: &mut [u8], places: Place, rules: RuleNumber) -> Result<(), Refusal>
+pub(super) fn prepare<S: Span>(
+    board: &[S],
+    working: &mut [S],
+    waiting: &mut [u8],
+    places: Place,
+    rules: RuleNumber,
+) -> Result<(), Refusal>
     requires board { ⌜ places ≤ length (now board) ⌝ }
     requires working { ⌜ places ≤ length (now working) ⌝ }
     requires waiting { ⌜ rules ≤ length (now waiting) ⌝ }
@@ -53,7 +59,12 @@ pub(super) fn prepare<S: Span>(board: &[S], working: &mut [S], waiting: &mut [u8
 }
 
 // Settles the working board. Granted, the board becomes what is left of it; refused, the working board becomes the board again.
-pub(super) fn attempt<B: Book>(book: &B, board: &mut [B::Span], working: &mut [B::Span], waiting: &mut [u8]) -> Result<Strikes, Refusal>
+pub(super) fn attempt<B: Book>(
+    book: &B,
+    board: &mut [B::Span],
+    working: &mut [B::Span],
+    waiting: &mut [u8],
+) -> Result<Strikes, Refusal>
     requires board { ⌜ B·Book .meaning (now book) .places ≤ length (now board) ⌝ }
     requires working { ⌜ B·Book .meaning (now book) .places ≤ length (now working) ⌝ }
     requires full { ⌜ Full (Span·Span .kind) (B·Book .meaning (now book) .places) (take (B·Book .meaning (now book) .places) (now working)) ⌝ }

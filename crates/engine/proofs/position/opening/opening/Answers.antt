@@ -56,8 +56,8 @@ returns-in-Break-prepare g c =
     let h = c .in-Break-prepare .ensures tt .answer ∙ ap (λ k. emptyTold kind (take k B)) ps in
     record {
       call = λ keep.
-        ap (λ r. opened book r (lent B (c .prepare .last .working) (c .prepare .last .waiting) keep)) (p .1 ∙ ap Err (p .2))
-        ∙ opening-hole kind book B W keep L (omega arith) (omega arith) (omega arith) (c .prepare .last .working) (c .prepare .last .waiting) w l (c .in-Break-prepare .field-0 .0) h;
+          ap (λ r. opened book r (lent B (c .prepare .last .working) (c .prepare .last .waiting) keep)) (p .1 ∙ ap Err (p .2))
+          ∙ opening-hole kind book B W keep L (omega arith) (omega arith) (omega arith) (c .prepare .last .working) (c .prepare .last .waiting) w l (c .in-Break-prepare .field-0 .0) h;
       law = history-law kind book (c .lawful .ensures);
     }
 
@@ -94,8 +94,8 @@ returns-in-Break-strikes g c =
     let e = c .in-Break-strikes .ensures tt in
     record {
       call = λ keep.
-        ap (λ r. opened book r (lent (c .attempt .last .board) (c .attempt .last .working) (c .attempt .last .waiting) keep)) (p .1 ∙ ap Err (p .2))
-        ∙ opening-tried kind book B W keep L (omega arith) (omega arith) (omega arith) (c .prepare .last .working) (c .prepare .last .waiting) w l h (Err (c .in-Break-strikes .field-0 .0)) (c .attempt .last .board) (c .attempt .last .working) (c .attempt .last .waiting) (e .answer) (e .board) (e .working) (e .waiting);
+          ap (λ r. opened book r (lent (c .attempt .last .board) (c .attempt .last .working) (c .attempt .last .waiting) keep)) (p .1 ∙ ap Err (p .2))
+          ∙ opening-tried kind book B W keep L (omega arith) (omega arith) (omega arith) (c .prepare .last .working) (c .prepare .last .waiting) w l h (Err (c .in-Break-strikes .field-0 .0)) (c .attempt .last .board) (c .attempt .last .working) (c .attempt .last .waiting) (e .answer) (e .board) (e .working) (e .waiting);
       law = history-law kind book (c .lawful .ensures);
     }
 
@@ -113,7 +113,7 @@ returns g c =
     let e = c .in-Continue-strikes .ensures tt in
     record {
       call = λ keep.
-        ap₂ (λ x y. record { answer = Ok (c .in-Continue-strikes .strikes); state = record { places = x; rules = y; marks = 0; memory = lent (c .attempt .last .board) (c .attempt .last .working) (c .attempt .last .waiting) keep } }) ps (c .rules-rules .ensures)
-        ∙ opening-tried kind book B W keep L (omega arith) (omega arith) (omega arith) (c .prepare .last .working) (c .prepare .last .waiting) w l h (Ok (c .in-Continue-strikes .strikes)) (c .attempt .last .board) (c .attempt .last .working) (c .attempt .last .waiting) (e .answer) (e .board) (e .working) (e .waiting);
+          ap₂ (λ x y. record { answer = Ok (c .in-Continue-strikes .strikes); state = record { places = x; rules = y; marks = 0; memory = lent (c .attempt .last .board) (c .attempt .last .working) (c .attempt .last .waiting) keep } }) ps (c .rules-rules .ensures)
+          ∙ opening-tried kind book B W keep L (omega arith) (omega arith) (omega arith) (c .prepare .last .working) (c .prepare .last .waiting) w l h (Ok (c .in-Continue-strikes .strikes)) (c .attempt .last .board) (c .attempt .last .working) (c .attempt .last .waiting) (e .answer) (e .board) (e .working) (e .waiting);
       law = history-law kind book (c .lawful .ensures);
     }

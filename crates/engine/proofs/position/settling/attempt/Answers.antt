@@ -30,8 +30,8 @@ returns-in-Ok g c =
     record {
       answer = sym (ap verdictAnswer whole);
       board =
-        ap₂ (λ x k. x ++ drop k (c .args .board .now)) (c .copy-from-slice .ensures .after ∙ take-at (c .settle .last .board) (drop n (c .args .working .now)) n after-long) is
-        ∙ sym (ap (λ v. verdictBoard (take (book .places) (c .args .board .now)) v ++ drop (book .places) (c .args .board .now)) whole);
+          ap₂ (λ x k. x ++ drop k (c .args .board .now)) (c .copy-from-slice .ensures .after ∙ take-at (c .settle .last .board) (drop n (c .args .working .now)) n after-long) is
+          ∙ sym (ap (λ v. verdictBoard (take (book .places) (c .args .board .now)) v ++ drop (book .places) (c .args .board .now)) whole);
       working = ap (λ k. c .settle .last .board ++ drop k (c .args .working .now)) is ∙ sym (ap (λ v. verdictBoard (take (book .places) (c .args .board .now)) v ++ drop (book .places) (c .args .working .now)) whole);
       waiting = c .fill .ensures ∙ ap₂ (λ k j. filled k 0 (c .settle .last .waiting ++ drop j (c .args .waiting .now))) (c .rules-rules .ensures) are ∙ cleared (book .rules) (c .args .waiting .now) (c .settle .last .waiting) waiting-long;
     }
@@ -54,8 +54,8 @@ returns-in-Err g c =
       answer = sym (ap verdictAnswer whole);
       board = sym (ap (λ v. verdictBoard (take (book .places) (c .args .board .now)) v ++ drop (book .places) (c .args .board .now)) whole ∙ take-append-drop (book .places) (c .args .board .now));
       working =
-        ap₂ (λ x y. x ++ y) (c .copy-from-slice-in-Err .ensures .after) (drop-at (c .settle .last .board) (drop n (c .args .working .now)) n after-long)
-        ∙ ap (λ k. take k (c .args .board .now) ++ drop k (c .args .working .now)) is
-        ∙ sym (ap (λ v. verdictBoard (take (book .places) (c .args .board .now)) v ++ drop (book .places) (c .args .working .now)) whole);
+          ap₂ (λ x y. x ++ y) (c .copy-from-slice-in-Err .ensures .after) (drop-at (c .settle .last .board) (drop n (c .args .working .now)) n after-long)
+          ∙ ap (λ k. take k (c .args .board .now) ++ drop k (c .args .working .now)) is
+          ∙ sym (ap (λ v. verdictBoard (take (book .places) (c .args .board .now)) v ++ drop (book .places) (c .args .working .now)) whole);
       waiting = c .fill-in-Err .ensures ∙ ap₂ (λ k j. filled k 0 (c .settle .last .waiting ++ drop j (c .args .waiting .now))) (c .rules-rules .ensures) are ∙ cleared (book .rules) (c .args .waiting .now) (c .settle .last .waiting) waiting-long;
     }
