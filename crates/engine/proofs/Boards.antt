@@ -104,7 +104,3 @@ module _ {S : Type 0} (kind : Kind S) where
   total-set (c ∷ b) zero a h = omega arith
   total-set (c ∷ b) (suc p) a h =
       let ih : total kind (set b p a) + kind .size (spanAt kind b p) ≡ total kind b + kind .size a = total-set b p a (le-of-suc-le-suc h) in omega arith
-
-  -- a strike takes a number away
-  pub total-struck : (b : List S) (p : ℕ) (a : S) → p < length b → kind .size a < kind .size (spanAt kind b p) → total kind (set b p a) < total kind b
-  total-struck b p a h l = omega (arith, total-set b p a h)

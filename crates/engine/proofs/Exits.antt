@@ -23,48 +23,12 @@ use Rattle.engine.specs.Calls.{Memory, State, refuse, shown, lowestWith, Verdi
 use Rattle.engine.specs.History.{handed}
 use Rattle.engine.proofs.Verdicts.{hole, whole-full}
 
--- ---- the lowest place
-
-module _ {S : Type 0} (test : S → Bool) (d : S) where
-  -- a place that passes, where none below it does
-  pub lowest-here : (b : List S) (p : ℕ) → p < length b → ((q : ℕ) → q < p → test (getD b q d) ≡ false) → test (getD b p d) ≡ true → lowestWith test b ≡ p
-  unfolding lowestWith
-  lowest-here [] p h f t = absurd (not-suc-le-zero h)
-  lowest-here (a ∷ b) zero h f t = rw t
-  lowest-here (a ∷ b) (suc p) h f t = rw (f 0 (omega arith)) (ap suc (lowest-here b p (le-of-suc-le-suc h) (λ q l. f (suc q) (omega arith)) t))
-
-  -- no place that passes
-  pub lowest-past : (b : List S) → ((q : ℕ) → q < length b → test (getD b q d) ≡ false) → lowestWith test b ≡ length b
-  unfolding lowestWith
-  lowest-past [] f = refl
-  lowest-past (a ∷ b) f = rw (f 0 (omega arith)) (ap suc (lowest-past b (λ q l. f (suc q) (omega arith))))
-
 -- ---- verdicts
 
 module _ {S : Type 0} (kind : Kind S) (book : Meaning S) where
-  -- the place p has the lowest empty span
-  pub record Hole (b : List S) (p : ℕ) : Type 0 where
-    pub here : p < length b
-    pub below : (q : ℕ) → q < p → eqb (kind .size (spanAt kind b q)) 0 ≡ false
-    pub empty : eqb (kind .size (spanAt kind b p)) 0 ≡ true
-
-  whole-hole : (b : List S) (p : ℕ) (v : Verdict S) → Hole b p → whole kind b v ≡ denied (EmptySpan p)
-  unfolding whole
-  whole-hole b p v h =
-      let at : hole kind book b ≡ p = lowest-here (λ span. eqb (kind .size span) 0) (kind .none) b p (h .here) (h .below) (h .empty) in
-      rw (at, lt-ltb p (length b) (h .here))
-
-  pub open-hole : (b : List S) (p : ℕ) → Hole b p → openVerdict kind book b ≡ denied (EmptySpan p)
-  unfolding openVerdict
-  open-hole b p h = whole-hole b p (judged (settle kind book b)) h
-
   pub open-settles : (b : List S) (o : Outcome S) → Full kind (book .places) b → settle kind book b ≡ o → openVerdict kind book b ≡ judged o
   unfolding openVerdict
   open-settles b o f e = whole-full kind book b (judged (settle kind book b)) f ∙ ap judged e
-
-  pub limit-hole : (l : Limit S) (b : List S) (p : ℕ) → Hole b p → limitVerdict kind book l b ≡ denied (EmptySpan p)
-  unfolding limitVerdict
-  limit-hole l b p h = whole-hole b p _ h
 
   pub limit-shares-nothing : (l : Limit S) (b : List S) → Full kind (book .places) b → eqb (kind .size (shared kind b l)) 0 ≡ true → limitVerdict kind book l b ≡ denied (NothingShared (l .place))
   unfolding limitVerdict
@@ -93,16 +57,6 @@ module _ {S : Type 0} (places rules : ℕ) (m : Memory S) where
   pub short-waiting : length (m .waiting) < rules → enough places rules m ≡ false
   unfolding enough
   short-waiting h = and-right _ _ (lt-leb rules (length (m .waiting)) h)
-
-module _ {S : Type 0} (st : State S) where
-  pub holds-from : st .places ≤ length (st .memory .board) → st .marks * st .places ≤ length (st .memory .keep) → holds st ≡ true
-  unfolding holds
-  holds-from b k = rw (le-leb (st .places) (length (st .memory .board)) b, le-leb (st .marks * st .places) (length (st .memory .keep)) k)
-
-  pub short-for-marks : (length (st .memory .board) < st .places) ⊎ (length (st .memory .keep) < st .marks * st .places) → holds st ≡ false
-  unfolding holds
-  short-for-marks (inl h) = and-left _ _ (lt-leb (st .places) (length (st .memory .board)) h)
-  short-for-marks (inr h) = and-right _ _ (lt-leb (st .marks * st .places) (length (st .memory .keep)) h)
 
 -- ---- opening and limit
 
@@ -163,27 +117,9 @@ module _ {S : Type 0} (st : State S) where
 -- ---- finish
 
 module _ {S : Type 0} (kind : Kind S) (st : State S) (list : List ℤ) where
-  -- not exactly one number
-  abbrev several : S → Bool
-  several span = not (eqb (kind .size span) 1)
-
   pub check-short : (leb (st .places) (length (st .memory .board)) && leb (st .places) (length list)) ≡ false → checkAnswer kind st list ≡ Err TooShort
   unfolding checkAnswer
   check-short e = rw e
-
-  module _ (b : st .places ≤ length (st .memory .board)) (l : st .places ≤ length list) where
-    pub check-several : (p : ℕ) → p < length (shown st) → ((q : ℕ) → q < p → eqb (kind .size (spanAt kind (shown st) q)) 1 ≡ true) → eqb (kind .size (spanAt kind (shown st) p)) 1 ≡ false
-        → checkAnswer kind st list ≡ Err (NotOneNumber p)
-    unfolding checkAnswer
-    check-several p h f e =
-        let at : lowestWith several (shown st) ≡ p = lowest-here several (kind .none) (shown st) p h (λ q u. ap not (f q u)) (ap not e) in
-        rw (at, lt-ltb p (length (shown st)) h, le-leb (st .places) (length (st .memory .board)) b, le-leb (st .places) (length list) l)
-
-    pub check-ready : ((q : ℕ) → q < length (shown st) → eqb (kind .size (spanAt kind (shown st) q)) 1 ≡ true) → checkAnswer kind st list ≡ Ok tt
-    unfolding checkAnswer
-    check-ready f =
-        let at : lowestWith several (shown st) ≡ length (shown st) = lowest-past several (kind .none) (shown st) (λ q u. ap not (f q u)) in
-        rw (at, le-ltb (length (shown st)) (length (shown st)) (omega arith), le-leb (st .places) (length (st .memory .board)) b, le-leb (st .places) (length list) l)
 
 -- a place that the board does not reach counts as empty, and finish writes 0 there
 pub lowest-missing : {S : Type 0} (kind : Kind S) (b : List S) (p : ℕ) → length b ≤ p → lowest kind (spanAt kind b p) ≡ pos 0

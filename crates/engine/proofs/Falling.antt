@@ -18,7 +18,7 @@ use Rattle.books.specs.Sweeps.{total}
 use Rattle.books.specs.Waking.{woken}
 use Rattle.books.proofs.Wakes.{length-woken}
 use Rattle.engine.specs.Skims.{Skim, halted, onward, onThen, tend, tendRule, skimFrom, skim, skims}
-use Rattle.engine.proofs.Visiting.{total-set, full-set}
+use Rattle.engine.proofs.Boards.{total-set, full-set}
 
 counted-most : (test : ℤ → Bool) (n : ℕ) → counted test n ≤ n
 counted-most test zero = omega (arith, counted-none test)
@@ -66,7 +66,7 @@ module _ {S : Type 0} (kind : Kind S) where
         struck l some =
             let here : p < book .places = counted p (inl refl) in
             record {
-              full = full-set kind (book .places) b p (book .rule r .answer p b) (k .full) here (omega (arith, some));
+              full = full-set kind (book .places) b p (book .rule r .answer p b) here (k .full) (omega (arith, some));
               falls = omega (arith, total-set kind b p (book .rule r .answer p b) (omega (arith, here, k .full .long)), l, k .falls);
               long = length-woken book p w ∙ k .long;
               rises = omega (arith, k .rises);

@@ -1,10 +1,9 @@
 -- Entries of a waiting list set one after the other. Assumes nothing.
 use mathlib.Core.Path.{_≡_, refl, sym, ap, _∙_}
 use mathlib.Core.List.{List, [], _∷_, _++_}
-use Prim.Native.Nat.{ℕ, _+_, _<_, _≤_}
-use native.Mathlib.Omega.{arith}
+use Prim.Native.Nat.{ℕ, _+_, _<_}
 use lib.ListN.{length, set, drop, replicate, getD}
-use Rattle.std.proofs.shelf.Lists.{append-assoc, drop-more, set-at, length-replicate, replicate-more, length-append, length-drop}
+use Rattle.std.proofs.shelf.Lists.{append-assoc, drop-more, set-at, length-replicate, replicate-more}
 use Rattle.engine.specs.Waiting.{filled}
 
 pub filled-none : (v : ℕ) (w : List ℕ) → filled 0 v w ≡ w
@@ -18,7 +17,3 @@ filled-more i v w h =
     ∙ set-at (replicate i v) (getD w i 0) (drop (i + 1) w) v i (length-replicate i v)
     ∙ sym (append-assoc (replicate i v) (v ∷ []) (drop (i + 1) w))
     ∙ ap (λ (xs : List ℕ). xs ++ drop (i + 1) w) (replicate-more i v)
-
-pub length-filled : (i v : ℕ) (w : List ℕ) → i ≤ length w → length (filled i v w) ≡ length w
-unfolding filled
-length-filled i v w h = length-append (replicate i v) (drop i w) ∙ omega (arith, length-replicate i v, length-drop i w)

@@ -12,11 +12,10 @@ pub mod Finishing
 pub mod Law
 pub mod Waits
 pub mod Passing
-pub mod Turns
 pub mod Exits
 pub mod Attempting
 pub mod Calling
-pub mod Opening
+pub mod Openings
 pub mod Limiting
 pub mod Writing
 pub mod Keeping

@@ -22,7 +22,7 @@ use Rattle.engine.specs.Calls.{Memory, State, Reply, refuse, Verdict, denied, 
 use Rattle.engine.specs.Waiting.{noneWait}
 use Rattle.engine.specs.Lent.{lent, at, emptyTold, verdictAnswer, verdictBoard, limitChecked}
 use Rattle.engine.proofs.Calling.{put, front-is, front-set, none-empty, empty-refuses, refused-prepared, tried}
-use Rattle.engine.proofs.Visiting.{full-set}
+use Rattle.engine.proofs.Boards.{full-set}
 use Rattle.engine.proofs.Exits.{limit-short, limit-other, limit-nowhere, limit-at, limit-shares-nothing, limit-settles}
 
 module _ {S : Type 0} (kind : Kind S) (book : Meaning S) (position : Position) (l : Limit S) (B W keep : List S) (L : List ℕ) where
@@ -109,7 +109,7 @@ module _ {S : Type 0} (kind : Kind S) (book : Meaning S) (position : Position) (
 
         pub limiting-full : Full kind (book .places) (take (book .places) W₂)
         unfolding cutOne
-        limiting-full = subst (Full kind (book .places)) (sym cut-front) (full-set kind (book .places) front (l .place) (shared kind front l) full (omega (arith, checked .1, checked .3)) (omega (arith, some, ap (kind .size) is-shared)))
+        limiting-full = subst (Full kind (book .places)) (sym cut-front) (full-set kind (book .places) front (l .place) (shared kind front l) (omega (arith, checked .1, checked .3)) full (omega (arith, some, ap (kind .size) is-shared)))
 
         split : W₂ ≡ set front (l .place) a ++ drop (position .places) W
         split = w₂ ∙ ap (λ (x : List S). set x (l .place) a) w ∙ set-append-left front (drop (position .places) W) (l .place) a (omega (arith, long, checked .3))

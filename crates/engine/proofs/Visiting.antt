@@ -21,24 +21,6 @@ use Rattle.books.proofs.Places.{among-at}
 use Rattle.engine.specs.Skims.{Skim, halted, onward, onThen, tend, tendRule, skimFrom, skim}
 
 module _ {S : Type 0} (kind : Kind S) where
-  -- a number more at one place is a number more in all
-  pub total-set : (b : List S) (p : ℕ) (a : S) → p < length b → total kind (set b p a) + kind .size (spanAt kind b p) ≡ total kind b + kind .size a
-  unfolding total
-  total-set [] p a h = absurd (omega arith)
-  total-set (s ∷ b) zero a h = omega arith
-  total-set (s ∷ b) (suc p) a h = omega (arith, total-set b p a (omega arith))
-
-  -- a board with a span replaced by one that is not empty
-  pub full-set : (places : ℕ) (b : List S) (p : ℕ) (a : S) → Full kind places b → p < places → 0 < kind .size a → Full kind places (set b p a)
-  full-set places b p a f h some = record {
-    long = length-set b p a ∙ f .long;
-    some = λ q l. at q l (cases-eq q p);
-  }
-    where
-      at : (q : ℕ) → q < places → (q ≡ p) ⊎ (q ≡ p → ⊥) → 0 < kind .size (spanAt kind (set b p a) q)
-      at q l (inl e) = subst (λ (s : S). 0 < kind .size s) (sym (ap (λ (i : ℕ). spanAt kind (set b p a) i) e ∙ getD-set-same b p a (kind .none) (omega (arith, f .long)))) some
-      at q l (inr n) = subst (λ (s : S). 0 < kind .size s) (sym (getD-set-other b p q a (kind .none) n)) (f .some q l)
-
   module _ (book : Meaning S) where
     -- one place more of a rule: its answer empties the span, strikes, or leaves it
     module _ (r : ℕ) (ps : List ℕ) (i : ℕ) (b : List S) (w : List ℕ) (s : ℕ) (h : i < length ps) (a old : S) (p : ℕ) (place : p ≡ getD ps i 0) (answered : a ≡ book .rule r .answer p b) (was : old ≡ spanAt kind b p) where
@@ -83,13 +65,10 @@ module _ {S : Type 0} (kind : Kind S) where
     rule-visited r b w s n = cond-false _ _ _ (ne-eqb (getD w r 0) 0 n)
 
     module _ (law : Lawful kind book) where
-      -- a place of a rule is a place of the board, and the answer there has no more numbers than the span
+      -- a place of a rule is a place of the board
       module _ (r i p : ℕ) (b : List S) (counted-rule : r < book .rules) (in-scope : i < length (book .rule r .scope)) (place : p ≡ getD (book .rule r .scope) i 0) (full : Full kind (book .places) b) where
         pub place-counted : p < book .places
         place-counted = subst (λ (q : ℕ). q < book .places) (sym place) (law .each r counted-rule .counted (getD (book .rule r .scope) i 0) (among-at (book .rule r .scope) i in-scope))
 
         pub place-within : p < length b
         place-within = omega (arith, place-counted, full .long)
-
-        pub answer-size : kind .size (book .rule r .answer p b) ≤ kind .size (spanAt kind b p)
-        answer-size = size-within kind (book .rule r .answer p b) (spanAt kind b p) (law .each r counted-rule .narrows p b place-counted full)

@@ -13,7 +13,7 @@ use Rattle.engine.specs.Lent.{skimTold}
 use Rattle.engine.specs.Skims.{Skim, halted, onward, skim, skims, skimmed}
 use Rattle.engine.specs.Waiting.{filled}
 use Rattle.engine.proofs.Falling.{Kept, Keeps, total-most, skim-keeps, skims-stop, skims-end, skims-more}
-use Rattle.engine.proofs.Filling.{length-filled}
+use Rattle.engine.proofs.Waits.{length-filled}
 use Rattle.engine.proofs.sweep.settle.Needs as need
 
 pub loop-after-holds : need.loop-after-holds

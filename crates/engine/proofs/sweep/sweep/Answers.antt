@@ -14,7 +14,8 @@ use Rattle.books.specs.Waking.{woken}
 use Rattle.books.proofs.Wakes.{length-woken}
 use Rattle.engine.specs.declared.sweep.EmptiedBy.{EmptiedBy}
 use Rattle.engine.specs.Skims.{Skim, halted, onward, onThen, tend, tendRule, skimFrom, skim}
-use Rattle.engine.proofs.Visiting.{total-set, full-set, tend-empties, tend-strikes, tend-leaves, tend-end, skim-at, skim-end, rule-passed, rule-visited, place-counted, place-within}
+use Rattle.engine.proofs.Boards.{total-set, full-set}
+use Rattle.engine.proofs.Visiting.{tend-empties, tend-strikes, tend-leaves, tend-end, skim-at, skim-end, rule-passed, rule-visited, place-counted, place-within}
 use Rattle.engine.proofs.sweep.sweep.Needs as need
 use Rattle.engine.proofs.sweep.sweep.Needs.{then-is-narrower, else-is-narrower, then-loop-rule-test·else-waiting-rule-eq0·then-loop-i-test·then-is-empty, else-loop-rule-test}
 
@@ -83,7 +84,7 @@ loop-i-again g c =
       | then-is-narrower w ↦
           let less : kind .size new < kind .size old = ltb-true (kind .size new) (kind .size old) (sym (c .is-narrower .ensures .count) ∙ w .if-is-narrower .taken) in
           let woke : c .if-is-narrower .waiting ≡ woken book p (l .waiting) = w .waiting-is ∙ w .wake .ensures in (
-            subst (Full kind (book .places)) (sym (w .board-is)) (full-set kind (book .places) (l .board) p new (l .inv .0) counted (omega (arith, some))),
+            subst (Full kind (book .places)) (sym (w .board-is)) (full-set kind (book .places) (l .board) p new counted (l .inv .0) (omega (arith, some))),
             omega (arith, ap (total kind) (w .board-is), w .strikes-is, total-set kind (l .board) p new within, ap (kind .size) was, less, l .inv .1),
             l .inv .2,
             omega (arith, ap length woke, length-woken book p (l .waiting), l .inv .3),

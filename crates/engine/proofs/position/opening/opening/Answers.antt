@@ -12,7 +12,7 @@ use Rattle.engine.specs.Waiting.{noneWait}
 use Rattle.engine.specs.Lent.{lent, opened, emptyTold}
 use Rattle.engine.proofs.Exits.{open-short, short-board, short-working, short-waiting}
 use Rattle.engine.proofs.Law.{history-law}
-use Rattle.engine.proofs.Opening.{opening-hole, opening-full, opening-tried}
+use Rattle.engine.proofs.Openings.{opening-hole, opening-full, opening-tried}
 use Rattle.engine.proofs.position.opening.opening.Needs as need
 
 pub returns-then-board-places : need.returns-then-board-places
