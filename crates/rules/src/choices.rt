@@ -1,0 +1,14 @@
+// Rules over choices: pairs of tokens that go together, and tokens that have to differ.
+pub mod apart;
+pub mod book;
+pub mod pair;
+pub mod row;
+pub mod side;
+pub mod token;
+
+pub use apart::ApartRow;
+pub use book::ChoiceBook;
+pub use pair::PairRow;
+pub use row::ChoiceRow;
+pub use side::Side;
+pub use token::TokenPair;

@@ -1,0 +1,2 @@
+// The rules of the games: how each kind of rule narrows a board.
+pub mod choices;
