@@ -5,6 +5,7 @@ pub mod pair;
 pub mod row;
 pub mod side;
 pub mod token;
+mod tokens;
 
 pub use apart::ApartRow;
 pub use book::ChoiceBook;

@@ -9,9 +9,8 @@ ghost use Rattle.rules.specs.ChoiceRows.{ApartAsked};
 ghost use Rattle.rules.specs.ChoiceRules.{admitsOnly};
 use super::ApartRow;
 use books::Place;
+use crate::choices::tokens::only_token;
 use spans::Choice;
-use spans::ChoiceSpan;
-use spans::Span;
 
 // Whether these are two different places of a board of so many.
 pub(crate) fn are_two_places(places: Place, first: Place, second: Place) -> bool
@@ -25,11 +24,8 @@ pub fn kept_apart(span: Choice, other: Choice) -> Choice
     ensures value { λ r. ⌜ r ≡ keeping span (λ t. not (admitsOnly other t)) ⌝ }
     ensures admits { λ r. ⌜ ((t : ℕ) → choiceAdmits r (pos t) ≡ (choiceAdmits span (pos t) && not (admitsOnly other t))) ⌝ }
 {
-    if !other.is_single() {
-        return span;
-    }
-    match other.least() {
-        Some(token) => span.without(token as u8),
+    match only_token(other) {
+        Some(token) => span.without(token),
         None => span,
     }
 }

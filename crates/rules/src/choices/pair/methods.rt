@@ -10,6 +10,7 @@ use super::PairRow;
 use crate::choices::apart::are_two_places;
 use crate::choices::side::Side;
 use crate::choices::token::TokenPair;
+use crate::choices::tokens::has_token;
 use books::Place;
 use spans::Choice;
 use spans::ChoiceSpan;
@@ -22,13 +23,13 @@ const MOST_PAIRS: usize = 100;
 fn joined(pairs: &[TokenPair], side: Side, other: Choice) -> Choice
     ensures { λ r. ⌜ Exactly r (λ t. somePair (joins side other t) (now (pairs .entry))) ⌝ }
 {
-    let mut kept = Choice::empty();
+    let mut found = Choice::empty();
     for pair in pairs {
-        if other.admits(pair.on(side.across()) as i32) {
-            kept = kept.with(pair.on(side));
+        if has_token(other, pair.on(side.across())) {
+            found = found.with(pair.on(side));
         }
     }
-    kept
+    found
 }
 
 impl PairRow {
