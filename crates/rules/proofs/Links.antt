@@ -19,7 +19,7 @@ use Rattle.rules.specs.declared.choices.side.Side.{Side}
 use Rattle.rules.specs.declared.choices.side.Side.the-variants.{First, Second}
 use Rattle.rules.specs.Sides.{across}
 use Rattle.rules.specs.TokenSets.{keeping}
-use Rattle.rules.specs.Between.{Between, placeOn, answerBetween, between}
+use Rattle.rules.specs.Between.{Between, placeOn, answerFrom, answerBetween, between}
 use Rattle.rules.specs.ArcConsistency.{ArcConsistent, Calm}
 use Rattle.rules.proofs.Keeping.{keeping-admits, kept-is}
 
@@ -65,7 +65,7 @@ module _ (places : ℕ) (link : Between) (P : Partnered link) (d : link .first �
 
   answer-at : (side : Side) (b : List Choice) → Full choices places b
       → answerBetween link (placeOn link side) b ≡ keeping (spanAt choices b (placeOn link side)) (link .stays side (spanAt choices b (placeOn link (across side))))
-  unfolding answerBetween
+  unfolding answerFrom
   answer-at First b f =
       let one = some First b f in
       let two = some Second b f in
@@ -78,11 +78,11 @@ module _ (places : ℕ) (link : Between) (P : Partnered link) (d : link .first �
       ∙ cond-false _ _ _ (ne-eqb (link .second) (link .first) (λ e. d (sym e))) ∙ cond-true _ _ _ (eq-eqb (link .second) (link .second) refl)
 
   elsewhere : (p : ℕ) (b : List Choice) → (Among p (between link .scope) → ⊥) → answerBetween link p b ≡ spanAt choices b p
-  unfolding answerBetween
+  unfolding answerFrom
   elsewhere p b n = either-way _ _ _ (cond-false _ _ _ (ne-eqb p (link .first) (λ z. n (inl z))) ∙ cond-false _ _ _ (ne-eqb p (link .second) (λ z. n (inr (inl z)))))
 
   at-empty : (p q : ℕ) (b : List Choice) → Among q (between link .scope) → choiceSize (spanAt choices b q) ≡ 0 → answerBetween link p b ≡ spanAt choices b p
-  unfolding answerBetween
+  unfolding answerFrom
   at-empty p q b (inl z) e = cond-true _ _ _ (or-left _ _ (eq-eqb (choiceSize (spanAt choices b (link .first))) 0 (rw z at e)))
   at-empty p q b (inr (inl z)) e = cond-true _ _ _ (or-right _ _ (eq-eqb (choiceSize (spanAt choices b (link .second))) 0 (rw z at e)))
   at-empty p q b (inr (inr m)) e = absurd m

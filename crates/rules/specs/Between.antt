@@ -27,15 +27,16 @@ pub record Between : Type 0 where
 abbrev pub placeOn : Between → Side → ℕ
 placeOn link side = on side (link .first) (link .second)
 
--- its answer: at its own places the tokens that may stay, elsewhere the board's span, and the board's span too where one of its places has an empty span
-unfoldable pub answerBetween : Between → ℕ → List Choice → Choice
-answerBetween link p board =
-    let span = spanAt choices board p in
-    let one = spanAt choices board (link .first) in
-    let two = spanAt choices board (link .second) in
+-- its answer for a place, from the span there and the spans of its own two places: at these the tokens that may stay, elsewhere the span as it is, and the span as it is too where one of its places has an empty one
+unfoldable pub answerFrom : Between → ℕ → Choice → Choice → Choice → Choice
+answerFrom link p span one two =
     let atSecond = cond (eqb p (link .second)) (keeping span (link .stays Second one)) span in
     let asked = cond (eqb p (link .first)) (keeping span (link .stays First two)) atSecond in
     cond (eqb (choiceSize one) 0 || eqb (choiceSize two) 0) span asked
+
+-- its answer for a place on a board
+abbrev pub answerBetween : Between → ℕ → List Choice → Choice
+answerBetween link p board = answerFrom link p (spanAt choices board p) (spanAt choices board (link .first)) (spanAt choices board (link .second))
 
 -- what it means
 abbrev pub between : Between → Rule Choice

@@ -8,7 +8,6 @@ use books::Place;
 use books::RuleNumber;
 use spans::Choice;
 use spans::ChoiceSpan;
-use spans::Span;
 
 const MOST_PLACES: Place = 254;
 const MOST_RULES: usize = 1000;
@@ -70,19 +69,8 @@ pub impl<'t> Book for ChoiceBook<'t> as ChoiceBookRules {
         if row.places() != self.places() {
             return span;
         }
-        let first = row.place_on(Side::First);
-        let second = row.place_on(Side::Second);
-        let one = board[first as usize];
-        let two = board[second as usize];
-        if one.is_empty() || two.is_empty() {
-            return span;
-        }
-        if place == first {
-            return row.kept(Side::First, span, two);
-        }
-        if place == second {
-            return row.kept(Side::Second, span, one);
-        }
-        span
+        let one = board[row.place_on(Side::First) as usize];
+        let two = board[row.place_on(Side::Second) as usize];
+        row.answer(place, span, one, two)
     }
 }

@@ -1,6 +1,6 @@
 ghost use mathlib.Core.Path.{_≡_};
 ghost use Rattle.rules.specs.TokenSets.{keeping};
-ghost use Rattle.rules.specs.Between.{placeOn};
+ghost use Rattle.rules.specs.Between.{answerFrom, placeOn};
 ghost use Rattle.rules.specs.ChoiceRows.{placesOf};
 ghost use Rattle.rules.specs.ChoiceRules.{linkOf};
 use super::apart::ApartRow;
@@ -9,6 +9,8 @@ use super::pair::PairRow;
 use super::side::Side;
 use books::Place;
 use spans::Choice;
+use spans::ChoiceSpan;
+use spans::Span;
 
 // A rule over choices, between two places.
 #[derive(Clone, Copy)]
@@ -48,5 +50,21 @@ impl ChoiceRow {
             ChoiceRow::Pair(row) => row.kept(side, span, other),
             ChoiceRow::Apart(_) => kept_apart(span, other),
         }
+    }
+
+    // Its answer for a place, from the span there and the spans of its own two places.
+    pub fn answer(&self, place: Place, span: Choice, one: Choice, two: Choice) -> Choice
+        ensures { λ r. ⌜ r ≡ answerFrom (linkOf (now (self .entry))) place span one two ⌝ }
+    {
+        if one.is_empty() || two.is_empty() {
+            return span;
+        }
+        if place == self.place_on(Side::First) {
+            return self.kept(Side::First, span, two);
+        }
+        if place == self.place_on(Side::Second) {
+            return self.kept(Side::Second, span, one);
+        }
+        span
     }
 }
