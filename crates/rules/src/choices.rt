@@ -17,3 +17,6 @@ pub use pair::PairRow;
 pub use row::ChoiceRow;
 pub use side::Side;
 pub use token::TokenPair;
+
+#[cfg(test)]
+mod tests;

@@ -5,5 +5,4 @@ ghost use Rattle.rules.specs.ArcConsistency.{Arc-law};
 // arc consistent.
 pub fn arc_consistency()
     ensures { λ _. ⌜ Arc-law ⌝ }
-{
-}
+{}

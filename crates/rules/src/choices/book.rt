@@ -10,6 +10,7 @@ use spans::Choice;
 use spans::ChoiceSpan;
 
 const MOST_PLACES: Place = 254;
+
 const MOST_RULES: usize = 1000;
 
 // Rules over choices, on boards of so many places.

@@ -8,8 +8,8 @@ ghost use Rattle.rules.specs.TokenSets.{keeping};
 ghost use Rattle.rules.specs.ChoiceRows.{ApartAsked};
 ghost use Rattle.rules.specs.ChoiceRules.{admitsOnly};
 use super::ApartRow;
-use books::Place;
 use crate::choices::tokens::only_token;
+use books::Place;
 use spans::Choice;
 
 // Whether these are two different places of a board of so many.

@@ -17,6 +17,6 @@ returns c =
     let row = c .args .self .now in
     let test = λ (t : ℕ). somePair (joins (c .args .side) (c .args .other) t) (pairsOf row) in
     let some : Exactly (c .joined .result) test
-        = subst (λ (n : ℕ). Exactly (c .joined .result) (λ t. somePair (joins (c .args .side) (c .args .other) t) (take n (row .pairs)))) (omega arith) (c .joined .ensures) in
+    = subst (λ (n : ℕ). Exactly (c .joined .result) (λ t. somePair (joins (c .args .side) (c .args .other) t) (take n (row .pairs)))) (omega arith) (c .joined .ensures) in
     let admits = λ (t : ℕ). ap (λ (r : Choice). choiceAdmits r (pos t)) (c .common .ensures) ∙ meet-keeps (c .args .span) (c .joined .result) test some t in
     record { value = kept-is (c .common .result) (c .args .span) test admits; admits = admits }

@@ -21,7 +21,7 @@ loop-pair-again c =
     let l = c .loop-pair in
     let pair = c .pair-item .result in
     let test : choiceAdmits other (pos (tokenOn pair (across side))) ≡ c .has-token .result
-        = sym (c .has-token .ensures ∙ ap (λ (n : ℕ). choiceAdmits other (pos n)) (c .on .ensures ∙ ap (tokenOn pair) (c .across .ensures))) in
+    = sym (c .has-token .ensures ∙ ap (λ (n : ℕ). choiceAdmits other (pos n)) (c .on .ensures ∙ ap (tokenOn pair) (c .across .ensures))) in
     elim (c .if-has-token .came) [
       | then-has-token w ↦ subst (Joining side other pairs (l .pair-index + 1)) (sym (w .found-is))
           (joining-add side other pairs (l .pair-index) (l .found) pair (c .loop-pair-test .taken) (c .pair-item .is) (l .inv) (w .with-found .result)
