@@ -1,0 +1,2 @@
+// The rules of the games: rows that hold them, and books made of rows.
+pub mod sums;

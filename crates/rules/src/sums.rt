@@ -1,0 +1,7 @@
+// Sums on amounts: the total of coefficient times number, over up to 16 places, stands in a relation to a bound.
+pub mod row;
+pub mod term;
+
+pub use row::SumRow;
+pub use term::Relation;
+pub use term::Term;
