@@ -1,1 +1,4 @@
+pub mod SumProducts
 pub mod SumRowing
+pub mod SumCutting
+pub mod SumAdding

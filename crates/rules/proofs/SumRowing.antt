@@ -38,9 +38,8 @@ is-true : (b : Bool) → b ≡ true → T b
 is-true b e = subst T (sym e) tt
 
 -- what stands before other entries is a sum still
-pub made-ok : (places : ℕ) (bound : ℤ) (ts us rest : List Term) → isSum places bound ts ≡ true → us ≡ ts → T (leb (length ts) 16 && isSum places bound (take (length ts) (us ++ rest)))
-made-ok places bound ts us rest e q =
+pub made-ok : (places : ℕ) (bound : ℤ) (ts rest : List Term) → isSum places bound ts ≡ true → T (leb (length ts) 16 && isSum places bound (take (length ts) (ts ++ rest)))
+made-ok places bound ts rest e =
     let parts = and-parts (isBound bound && leb 1 (length ts) && leb (length ts) 16) (areTerms places ts) e in
     let few = and-parts (isBound bound && leb 1 (length ts)) (leb (length ts) 16) (parts .0) .1 in
-    let same : isSum places bound (take (length ts) (us ++ rest)) ≡ isSum places bound ts = ap (isSum places bound) (ap (λ (l : List Term). take (length ts) (l ++ rest)) q ∙ take-at ts rest (length ts) refl) in
-    is-true _ (and-from (leb (length ts) 16) _ few (same ∙ e))
+    is-true _ (and-from (leb (length ts) 16) _ few (ap (isSum places bound) (take-at ts rest (length ts) refl) ∙ e))

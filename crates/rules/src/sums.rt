@@ -1,4 +1,6 @@
 // Sums on amounts: the total of coefficient times number, over up to 16 places, stands in a relation to a bound.
+mod adding;
+mod cutting;
 pub mod row;
 pub mod term;
 

@@ -1,8 +1,9 @@
 // How the rows of sums are made and read.
 ghost use mathlib.Core.Path.{_≡_};
+ghost use Prim.Native.Nat.{_≤_};
 ghost use lib.ListN.{length};
 ghost use Rattle.rules.specs.SumTerms.{isBound, isTerm, isSum, areTerms};
-ghost use Rattle.rules.specs.SumRows.{Made, termsOf, uses};
+ghost use Rattle.rules.specs.SumRows.{Made, padded, termsOf, uses};
 use super::MOST_TERMS;
 use super::SumRow;
 use crate::sums::term::Relation;
@@ -62,6 +63,16 @@ fn is_sum(places: Place, bound: i64, terms: &[Term]) -> bool
     is_bound(bound) && 1 <= terms.len() && terms.len() <= MOST_TERMS && are_terms(places, terms)
 }
 
+// The terms, and blank entries up to 16.
+fn pad(terms: &[Term]) -> [Term; MOST_TERMS]
+    requires { ⌜ length (now terms) ≤ 16 ⌝ }
+    ensures { λ r. ⌜ r ≡ padded (now (terms .entry)) ⌝ }
+{
+    let mut held = [BLANK; MOST_TERMS];
+    held[0..terms.len()].copy_from_slice(terms);
+    held
+}
+
 impl SumRow {
     // The sum of these terms, on boards of so many places; none where these are no sum.
     pub fn new(places: Place, relation: Relation, bound: i64, terms: &[Term]) -> Option<SumRow>
@@ -70,15 +81,12 @@ impl SumRow {
         if !is_sum(places, bound, terms) {
             return None;
         }
-        let count = terms.len();
-        let mut held = [BLANK; MOST_TERMS];
-        held[0..count].copy_from_slice(terms);
         Some(SumRow {
             places,
             relation,
             bound,
-            count: count as u8,
-            terms: held,
+            count: terms.len() as u8,
+            terms: pad(terms),
         })
     }
 
