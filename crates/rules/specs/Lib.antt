@@ -1,3 +1,4 @@
 pub mod SumTerms
 pub mod SumRows
 pub mod Sums
+pub mod SumBooks

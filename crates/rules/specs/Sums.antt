@@ -88,6 +88,12 @@ cut AtMost bound ts i b s = keepAtMost (coefficientAt ts i) (bound -ℤ low ts i
 cut AtLeast bound ts i b s = keepAtLeast (coefficientAt ts i) (bound -ℤ high ts i b) s
 cut Equal bound ts i b s = keepAtLeast (coefficientAt ts i) (bound -ℤ high ts i b) (keepAtMost (coefficientAt ts i) (bound -ℤ low ts i b) s)
 
+-- whether a number may stay there: with it, and with the least or the greatest products elsewhere, the sum does not miss the bound
+abbrev pub mayStay : Relation → ℤ → List Term → ℕ → List Amount → ℤ → Bool
+mayStay AtMost bound ts i b x = leZ (coefficientAt ts i *ℤ x +ℤ low ts i b) bound
+mayStay AtLeast bound ts i b x = leZ bound (coefficientAt ts i *ℤ x +ℤ high ts i b)
+mayStay Equal bound ts i b x = leZ (coefficientAt ts i *ℤ x +ℤ low ts i b) bound && leZ bound (coefficientAt ts i *ℤ x +ℤ high ts i b)
+
 -- the index of the place's term among terms that are counted from n on, or else what was found before
 abbrev pub indexFrom : ℕ → ℕ → List Term → Option ℕ → Option ℕ
 indexFrom n p [] found = found
