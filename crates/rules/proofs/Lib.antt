@@ -5,3 +5,11 @@ pub mod Links
 pub mod Partners
 pub mod ChoiceLaws
 pub mod Answering
+pub mod SumProducts
+pub mod SumRowing
+pub mod SumCutting
+pub mod SumAdding
+pub mod SumTotals
+pub mod SumIndexes
+pub mod SumAnswers
+pub mod SumLaws

@@ -6,3 +6,7 @@ pub mod ChoiceRows
 pub mod ChoiceRules
 pub mod ChoiceBooks
 pub mod ArcConsistency
+pub mod SumTerms
+pub mod SumRows
+pub mod Sums
+pub mod SumBooks

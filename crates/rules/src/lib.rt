@@ -1,2 +1,3 @@
-// The rules of the games: how each kind of rule narrows a board.
+// The rules of the games: rows that hold them, and books made of rows.
 pub mod choices;
+pub mod sums;
