@@ -13,3 +13,4 @@ pub mod SumTotals
 pub mod SumIndexes
 pub mod SumAnswers
 pub mod SumLaws
+pub mod Working

@@ -83,8 +83,7 @@ pub ready : (row : SumRow) (b : List Amount) (ts : List Term) (bound : ℤ) (p i
 ready row b ts bound p i found e f g h k =
     let s = row-sum row in
     let fair = sum-fair (row .places) (row .bound) (termsOf row) s in
-    let whole = subst (λ (n : ℕ). T (areTerms n (termsOf row))) g (fair .good) in
-    (
+    let whole = subst (λ (n : ℕ). T (areTerms n (termsOf row))) g (fair .good) in (
       subst (λ (z : ℤ). T (isBound z)) (sym f) (sum-bound (row .places) (row .bound) (termsOf row) s),
       subst (λ (l : List Term). T (areTerms (length b) l)) (sym e) whole,
       subst (λ (l : List Term). length l ≤ 16) (sym e) (fair .few),

@@ -124,20 +124,20 @@ module _ (places : ℕ) (ts : List Term) (counted : (p : ℕ) → Among p (map p
       unfolding own low
       sum-is-low =
           ap (λ (z : ℤ). own +ℤ z) (total-same (leastOn b) (productIn h) (others i ts) (λ t m.
-              let q = here t m in
-              let s = spanAt amounts b (t .place) in
-              let r = least-reached (t .coefficient) s (omega (arith, one (t .place) q)) in
-              r .2 ∙ ap (λ (z : ℤ). t .coefficient *ℤ z) (one-number amounts s (r .0) (numberAt h (t .place)) (one (t .place) q) (r .1) (on .admitted (t .place) q))))
+          let q = here t m in
+          let s = spanAt amounts b (t .place) in
+          let r = least-reached (t .coefficient) s (omega (arith, one (t .place) q)) in
+          r .2 ∙ ap (λ (z : ℤ). t .coefficient *ℤ z) (one-number amounts s (r .0) (numberAt h (t .place)) (one (t .place) q) (r .1) (on .admitted (t .place) q))))
           ∙ sym (total-split (productIn h) i ts within)
 
       sum-is-high : own +ℤ high ts i b ≡ sumOf ts h
       unfolding own high
       sum-is-high =
           ap (λ (z : ℤ). own +ℤ z) (total-same (greatestOn b) (productIn h) (others i ts) (λ t m.
-              let q = here t m in
-              let s = spanAt amounts b (t .place) in
-              let r = greatest-reached (t .coefficient) s (omega (arith, one (t .place) q)) in
-              r .2 ∙ ap (λ (z : ℤ). t .coefficient *ℤ z) (one-number amounts s (r .0) (numberAt h (t .place)) (one (t .place) q) (r .1) (on .admitted (t .place) q))))
+          let q = here t m in
+          let s = spanAt amounts b (t .place) in
+          let r = greatest-reached (t .coefficient) s (omega (arith, one (t .place) q)) in
+          r .2 ∙ ap (λ (z : ℤ). t .coefficient *ℤ z) (one-number amounts s (r .0) (numberAt h (t .place)) (one (t .place) q) (r .1) (on .admitted (t .place) q))))
           ∙ sym (total-split (productIn h) i ts within)
 
 -- ---- the laws

@@ -10,3 +10,4 @@ pub mod SumTerms
 pub mod SumRows
 pub mod Sums
 pub mod SumBooks
+pub mod Worked
