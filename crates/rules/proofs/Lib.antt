@@ -6,3 +6,4 @@ pub mod SumTotals
 pub mod SumIndexes
 pub mod SumAnswers
 pub mod SumLaws
+pub mod SumBooking
