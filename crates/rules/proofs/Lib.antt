@@ -1,3 +1,4 @@
+pub mod Working
 pub mod Keeping
 pub mod Joining
 pub mod Filling
@@ -13,4 +14,4 @@ pub mod SumTotals
 pub mod SumIndexes
 pub mod SumAnswers
 pub mod SumLaws
-pub mod Working
+pub mod SumBooking

@@ -1,3 +1,4 @@
+pub mod Worked
 pub mod RowTests
 pub mod Sides
 pub mod TokenSets
@@ -10,4 +11,3 @@ pub mod SumTerms
 pub mod SumRows
 pub mod Sums
 pub mod SumBooks
-pub mod Worked

@@ -1,6 +1,7 @@
 ghost use mathlib.Core.Path.{_≡_};
 ghost use denote.Ref.{now};
 ghost use Rattle.rules.specs.ChoiceBooks.{choiceBook};
+ghost use Rattle.rules.specs.ArcConsistency.{Arc-book-law};
 use super::row::ChoiceRow;
 use super::side::Side;
 use books::Book;
@@ -22,9 +23,11 @@ pub struct ChoiceBook<'t> {
 
 impl<'t> ChoiceBook<'t> {
     // The book of these rows. It counts at least 1 place and at most 254, and of the rows at most 1,000. A row that was made for
-    // boards of another count of places is a rule that changes nothing.
+    // boards of another count of places is a rule that changes nothing. A board with no empty span is settled under the book
+    // exactly when it is arc consistent for every other row.
     pub fn new(places: Place, rows: &'t [ChoiceRow]) -> ChoiceBook<'t>
-        ensures { λ r. ⌜ (r .places ≡ places) × (r .rows ≡ rows .entry) ⌝ }
+        ensures holds { λ r. ⌜ (r .places ≡ places) × (r .rows ≡ rows .entry) ⌝ }
+        ensures arc { λ _. ⌜ Arc-book-law places (now (rows .entry)) ⌝ }
     {
         ChoiceBook { places, rows }
     }
