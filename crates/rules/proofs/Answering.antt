@@ -38,13 +38,13 @@ module _ (link : Between) (p : ℕ) (span one two : Choice) where
   at-neither n m = sym (either-way _ _ _ (cond-false _ _ _ (ne-eqb p (link .first) n) ∙ cond-false _ _ _ (ne-eqb p (link .second) m)))
 
   module _ (some : eqb (choiceSize one) 0 ≡ false) (other : eqb (choiceSize two) 0 ≡ false) where
-    pub at-first : p ≡ link .first → keeping span (link .stays First two) ≡ answerFrom link p span one two
+    pub at-first : (r : Choice) → r ≡ keeping span (link .stays First two) → p ≡ link .first → r ≡ answerFrom link p span one two
     unfolding answerFrom
-    at-first e = sym (cond-false _ _ _ (or-from _ _ some other) ∙ cond-true _ _ _ (eq-eqb p (link .first) e))
+    at-first r is e = is ∙ sym (cond-false _ _ _ (or-from _ _ some other) ∙ cond-true _ _ _ (eq-eqb p (link .first) e))
 
-    pub at-second : (p ≡ link .first → ⊥) → p ≡ link .second → keeping span (link .stays Second one) ≡ answerFrom link p span one two
+    pub at-second : (r : Choice) → r ≡ keeping span (link .stays Second one) → (p ≡ link .first → ⊥) → p ≡ link .second → r ≡ answerFrom link p span one two
     unfolding answerFrom
-    at-second n e = sym (cond-false _ _ _ (or-from _ _ some other) ∙ cond-false _ _ _ (ne-eqb p (link .first) n) ∙ cond-true _ _ _ (eq-eqb p (link .second) e))
+    at-second r is n e = is ∙ sym (cond-false _ _ _ (or-from _ _ some other) ∙ cond-false _ _ _ (ne-eqb p (link .first) n) ∙ cond-true _ _ _ (eq-eqb p (link .second) e))
 
 -- ---- the places of a rule, by their numbers
 

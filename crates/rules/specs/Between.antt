@@ -27,7 +27,8 @@ pub record Between : Type 0 where
 abbrev pub placeOn : Between → Side → ℕ
 placeOn link side = on side (link .first) (link .second)
 
--- its answer for a place, from the span there and the spans of its own two places: at these the tokens that may stay, elsewhere the span as it is, and the span as it is too where one of its places has an empty one
+-- its answer for a place, from the span there and the spans of its own two places: at these the tokens that may stay; elsewhere,
+-- and where one of its places has an empty span, the span as it is
 unfoldable pub answerFrom : Between → ℕ → Choice → Choice → Choice → Choice
 answerFrom link p span one two =
     let atSecond = cond (eqb p (link .second)) (keeping span (link .stays Second one)) span in

@@ -5,6 +5,9 @@ use books::Place;
 
 mod methods;
 
+// How many pairs a rule lists at most.
+pub const MOST_PAIRS: usize = 100;
+
 // A rule that lists the pairs of tokens that its two places may have. It is for boards of so many places, and has 1 to 100
 // pairs: the first `count` of those held here.
 #[derive(Clone, Copy)]
@@ -13,6 +16,6 @@ pub struct PairRow {
     pub first: Place,
     pub second: Place,
     pub count: u8,
-    pub pairs: [TokenPair; 100],
+    pub pairs: [TokenPair; MOST_PAIRS],
     ghost ok: { T (isPairRow places first second count) },
 }

@@ -6,6 +6,7 @@ ghost use Rattle.spans.specs.Choices.{Exactly, choiceAdmits};
 ghost use Rattle.rules.specs.TokenSets.{keeping};
 ghost use Rattle.rules.specs.ChoiceRows.{PairAsked, pairsOf};
 ghost use Rattle.rules.specs.ChoiceRules.{joins, somePair};
+use super::MOST_PAIRS;
 use super::PairRow;
 use crate::choices::apart::are_two_places;
 use crate::choices::side::Side;
@@ -15,9 +16,6 @@ use books::Place;
 use spans::Choice;
 use spans::ChoiceSpan;
 use spans::Span;
-
-// How many pairs a row has at most.
-const MOST_PAIRS: usize = 100;
 
 // The tokens on a side that some of the pairs joins to a token that the other span admits.
 fn joined(pairs: &[TokenPair], side: Side, other: Choice) -> Choice
@@ -44,7 +42,7 @@ impl PairRow {
         let mut held = [TokenPair {
             first: 0,
             second: 0,
-        }; 100];
+        }; MOST_PAIRS];
         for (i, pair) in pairs.iter().enumerate() {
             held[i] = *pair;
         }

@@ -15,13 +15,13 @@ returns-then-is-empty c =
 pub returns-then-place-place-on : need.returns-then-place-place-on
 returns-then-place-place-on c =
     let a = c .args in
-    c .kept .ensures ∙ at-first (linkOf (a .self .now)) (a .place) (a .span) (a .one) (a .two) (sym (c .if-is-empty .ensures tt .count)) (sym (c .if-is-empty-2 .ensures tt .count))
+    at-first (linkOf (a .self .now)) (a .place) (a .span) (a .one) (a .two) (sym (c .if-is-empty .ensures tt .count)) (sym (c .if-is-empty-2 .ensures tt .count)) (c .kept .result) (c .kept .ensures)
     (c .if-place-place-on .taken ∙ c .place-on .ensures)
 
 pub returns-then-place-place-on-2 : need.returns-then-place-place-on-2
 returns-then-place-place-on-2 c =
     let a = c .args in
-    c .kept-then-place-place-on-2 .ensures ∙ at-second (linkOf (a .self .now)) (a .place) (a .span) (a .one) (a .two) (sym (c .if-is-empty .ensures tt .count)) (sym (c .if-is-empty-2 .ensures tt .count))
+    at-second (linkOf (a .self .now)) (a .place) (a .span) (a .one) (a .two) (sym (c .if-is-empty .ensures tt .count)) (sym (c .if-is-empty-2 .ensures tt .count)) (c .kept-then-place-place-on-2 .result) (c .kept-then-place-place-on-2 .ensures)
     (λ e. c .if-place-place-on .left (e ∙ sym (c .place-on .ensures))) (c .if-place-place-on-2 .taken ∙ c .place-on-2 .ensures)
 
 pub returns : need.returns
