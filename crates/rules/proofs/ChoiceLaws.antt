@@ -18,7 +18,7 @@ use Rattle.books.specs.Settled.{Settled}
 use Rattle.books.proofs.Filters.{idle-sound}
 use Rattle.rules.specs.declared.choices.row.ChoiceRow.{ChoiceRow}
 use Rattle.rules.specs.declared.choices.row.ChoiceRow.the-variants.{Pair, Apart}
-use Rattle.rules.specs.RowTests.{areTwoPlaces}
+use Rattle.rules.specs.ChoiceTests.{areTwoPlaces}
 use Rattle.rules.specs.Between.{between}
 use Rattle.rules.specs.ChoiceRows.{placesOf}
 use Rattle.rules.specs.ChoiceRules.{linkOf}

@@ -9,7 +9,7 @@ use lib.ListN.{length, getD, set, take}
 use Rattle.std.proofs.shelf.Lists.{take-more, take-more-set, take-all}
 use Rattle.std.proofs.shelf.Tests.{and-from, lt-ltb, le-leb}
 use Rattle.rules.specs.declared.choices.token.TokenPair.{TokenPair}
-use Rattle.rules.specs.RowTests.{areTwoPlaces, isPairRow}
+use Rattle.rules.specs.ChoiceTests.{areTwoPlaces, isPairRow}
 
 pub filled-more : (held pairs : List TokenPair) (i : ℕ) (pair : TokenPair) → i < length held → i < length pairs → pair ≡ getD pairs i pair → take i held ≡ take i pairs → take (i + 1) (set held i pair) ≡ take (i + 1) pairs
 filled-more held pairs i pair h l is e =

@@ -11,7 +11,7 @@ use Rattle.rules.specs.declared.choices.pair.PairRow.{PairRow}
 use Rattle.rules.specs.declared.choices.apart.ApartRow.{ApartRow}
 use Rattle.rules.specs.declared.choices.row.ChoiceRow.{ChoiceRow}
 use Rattle.rules.specs.declared.choices.row.ChoiceRow.the-variants.{Pair, Apart}
-use Rattle.rules.specs.RowTests.{areTokens, areTwoPlaces, isPairRow}
+use Rattle.rules.specs.ChoiceTests.{areTokens, areTwoPlaces, isPairRow}
 
 -- the pairs that a row lists
 abbrev pub pairsOf : PairRow → List TokenPair

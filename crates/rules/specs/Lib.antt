@@ -1,5 +1,5 @@
 pub mod Worked
-pub mod RowTests
+pub mod ChoiceTests
 pub mod Sides
 pub mod TokenSets
 pub mod Between

@@ -35,6 +35,7 @@ Comes (onChoices book board should) = settle choices book board ≡ should
 
 -- ---- sums
 
+-- a summand
 abbrev term : ℤ → ℕ → Term
 term coefficient place = record { coefficient = coefficient; place = place }
 
@@ -64,23 +65,25 @@ cutTo span = set settledAt 0 (amountMeet (spanAt amounts settledAt 0) span)
 
 -- ---- choices
 
--- a choice by its mask: 3 has the tokens 0 and 1, 6 has 1 and 2, and 7 has 0 to 2
+-- the tokens 0 and 1, by their mask
 abbrev tokens01 : Choice
 tokens01 = record { mask = 3; ok = tt }
 
+-- the tokens 1 and 2
 abbrev tokens12 : Choice
 tokens12 = record { mask = 6; ok = tt }
 
+-- the tokens 0 to 2
 abbrev tokens012 : Choice
 tokens012 = record { mask = 7; ok = tt }
 
--- a pair row of places 0 and 1 with the pairs (0, 1) and (1, 2)
+-- the pairs (0, 1) and (1, 2), for the places 0 and 1
 abbrev pub twoPairs : Meaning Choice
 twoPairs =
     let pairs : List TokenPair = record { first = 0; second = 1; ok = tt } ∷ record { first = 1; second = 2; ok = tt } ∷ replicate 98 (record { first = 0; second = 0; ok = tt }) in
     choiceBook 2 (Pair (record { places = 2; first = 0; second = 1; count = 2; pairs = pairs; ok = tt }) ∷ [])
 
--- three places, each two of them apart
+-- three places, each two of them apart: rules 0, 1 and 2
 abbrev pub allApart : Meaning Choice
 allApart =
     choiceBook 3 (
@@ -91,6 +94,7 @@ allApart =
 
 -- ---- the positions
 
+-- X, A and P are place 0, Y and Q are place 1, and so on
 unfoldable pub worked : List Worked
 worked =
     onAmounts threeFour (upTo 0 10 ∷ upTo 0 10 ∷ []) (left (upTo 0 8 ∷ upTo 0 6 ∷ []) 4)

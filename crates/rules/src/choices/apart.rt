@@ -1,5 +1,5 @@
 ghost use lib.Dec.{T};
-ghost use Rattle.rules.specs.RowTests.{areTwoPlaces};
+ghost use Rattle.rules.specs.ChoiceTests.{areTwoPlaces};
 use books::Place;
 
 mod methods;

@@ -1,5 +1,5 @@
 ghost use lib.Dec.{T};
-ghost use Rattle.rules.specs.RowTests.{isPairRow};
+ghost use Rattle.rules.specs.ChoiceTests.{isPairRow};
 use super::token::TokenPair;
 use books::Place;
 

@@ -1,5 +1,5 @@
 ghost use lib.Dec.{T};
-ghost use Rattle.rules.specs.RowTests.{areTokens};
+ghost use Rattle.rules.specs.ChoiceTests.{areTokens};
 
 mod methods;
 

@@ -3,7 +3,7 @@ ghost use mathlib.Core.Bool.{not, _&&_};
 ghost use Prim.Native.Nat.{ℕ};
 ghost use lib.IntN.{pos};
 ghost use Rattle.spans.specs.Choices.{choiceAdmits};
-ghost use Rattle.rules.specs.RowTests.{areTwoPlaces};
+ghost use Rattle.rules.specs.ChoiceTests.{areTwoPlaces};
 ghost use Rattle.rules.specs.TokenSets.{keeping};
 ghost use Rattle.rules.specs.ChoiceRows.{ApartAsked};
 ghost use Rattle.rules.specs.ChoiceRules.{admitsOnly};

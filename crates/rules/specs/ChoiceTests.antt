@@ -1,4 +1,4 @@
--- The tests that a row of a table of rules has to pass. Assumes nothing.
+-- The tests that pairs of tokens and rows of rules over choices have to pass. Assumes nothing.
 use mathlib.Core.Bool.{Bool, not, _&&_}
 use Prim.Native.Nat.{ℕ}
 use lib.Dec.{eqb, leb, ltb}
@@ -12,6 +12,6 @@ areTokens first second = ltb first tokens && ltb second tokens
 abbrev pub areTwoPlaces : ℕ → ℕ → ℕ → Bool
 areTwoPlaces places first second = ltb first places && ltb second places && not (eqb first second)
 
--- the same, with 1 to 100 pairs
+-- two such places, and 1 to 100 pairs
 abbrev pub isPairRow : ℕ → ℕ → ℕ → ℕ → Bool
 isPairRow places first second count = areTwoPlaces places first second && ltb 0 count && leb count 100
