@@ -7,3 +7,4 @@ pub mod SumIndexes
 pub mod SumAnswers
 pub mod SumLaws
 pub mod SumBooking
+pub mod SumProjections
