@@ -8,3 +8,4 @@ pub mod SumAnswers
 pub mod SumLaws
 pub mod SumBooking
 pub mod SumProjections
+pub mod SumConsistent
