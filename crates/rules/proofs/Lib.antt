@@ -9,3 +9,4 @@ pub mod SumLaws
 pub mod SumBooking
 pub mod SumProjections
 pub mod SumConsistent
+pub mod SumExample
