@@ -15,3 +15,6 @@ pub mod SumIndexes
 pub mod SumAnswers
 pub mod SumLaws
 pub mod SumBooking
+pub mod SumProjections
+pub mod SumConsistent
+pub mod SumExample

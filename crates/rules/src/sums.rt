@@ -5,6 +5,7 @@ pub mod book;
 mod cutting;
 pub mod row;
 pub mod term;
+pub mod theorems;
 
 pub use book::SumBook;
 pub use book::SumBookBook;
