@@ -214,11 +214,11 @@ module _ (places : ℕ) (ts : List Term) (once : Distinct (map placeOf ts)) (cou
       total-split (productIn support) i ts within
       ∙ ap₂ _+ℤ_ (ap (λ (z : ℤ). coefficientAt ts i *ℤ z) support-here)
       (total-same (productIn support) (λ t. t .coefficient *ℤ end (t .coefficient) (spanAt amounts b (t .place))) (others i ts) (λ t m.
-          let n = other-among i ts t m in
-          ap (λ (z : ℤ). t .coefficient *ℤ z)
-          (chosen (t .place) (counted (t .place) (place-among ts t n))
-          ∙ cond-false (eqb (t .place) p) x _ (ne-eqb (t .place) p (other-places i ts once within t m))
-          ∙ ap (λ (z : ℤ). end z (spanAt amounts b (t .place))) (coefficient-is ts once t n))))
+      let n = other-among i ts t m in
+      ap (λ (z : ℤ). t .coefficient *ℤ z)
+      (chosen (t .place) (counted (t .place) (place-among ts t n))
+      ∙ cond-false (eqb (t .place) p) x _ (ne-eqb (t .place) p (other-places i ts once within t m))
+      ∙ ap (λ (z : ℤ). end z (spanAt amounts b (t .place))) (coefficient-is ts once t n))))
 
 module _ (row : SumRow) (b : List Amount) (full : FullFor row b) (i : ℕ) (within : i < length (termsOf row)) (x : ℤ) (admitted : T (amountAdmits (spanAt amounts b (placeAt row i)) x)) where
   supports : (relation : Relation) → Inequality relation → T (mayStay relation (row .bound) (termsOf row) i b x)
@@ -230,8 +230,7 @@ module _ (row : SumRow) (b : List Amount) (full : FullFor row b) (i : ℕ) (with
       let c = places-counted n ts (fair row .good) in
       let d = once row in
       let sum = support-sum n ts d c i within b full x admitted leastEnd least-end-admitted
-      ∙ ap (λ (z : ℤ). coefficientAt ts i *ℤ x +ℤ z) (total-same _ (leastOn b) (others i ts) (λ u m. least-end (u .coefficient) (spanAt amounts b (u .place)))) in
-      (
+      ∙ ap (λ (z : ℤ). coefficientAt ts i *ℤ x +ℤ z) (total-same _ (leastOn b) (others i ts) (λ u m. least-end (u .coefficient) (spanAt amounts b (u .place)))) in (
         support n ts d c i within b full x admitted leastEnd least-end-admitted,
         support-on n ts d c i within b full x admitted leastEnd least-end-admitted,
         support-here n ts d c i within b full x admitted leastEnd least-end-admitted,
@@ -243,8 +242,7 @@ module _ (row : SumRow) (b : List Amount) (full : FullFor row b) (i : ℕ) (with
       let c = places-counted n ts (fair row .good) in
       let d = once row in
       let sum = support-sum n ts d c i within b full x admitted greatestEnd greatest-end-admitted
-      ∙ ap (λ (z : ℤ). coefficientAt ts i *ℤ x +ℤ z) (total-same _ (greatestOn b) (others i ts) (λ u m. greatest-end (u .coefficient) (spanAt amounts b (u .place)))) in
-      (
+      ∙ ap (λ (z : ℤ). coefficientAt ts i *ℤ x +ℤ z) (total-same _ (greatestOn b) (others i ts) (λ u m. greatest-end (u .coefficient) (spanAt amounts b (u .place)))) in (
         support n ts d c i within b full x admitted greatestEnd greatest-end-admitted,
         support-on n ts d c i within b full x admitted greatestEnd greatest-end-admitted,
         support-here n ts d c i within b full x admitted greatestEnd greatest-end-admitted,
@@ -274,10 +272,13 @@ settled-law places rows b = (consistent, settled)
     n = placeCount places
 
     consistent : Settled amounts (sumBook places rows) b → Full amounts (placeCount places) b × All-consistent (placeCount places) (ruleCount (length rows)) rows b
-    consistent s = (s .full, λ r d h e.
-        let row = getD rows r d in
-        let same = rule-same (placeCount places) rows r d (omega arith) e in
-        calm-consistent row b (subst (λ (k : ℕ). Full amounts k b) (sym e) (s .full)) (λ p l. ap (λ (rule : Rule Amount). rule .answer p b) (sym same) ∙ s .calm r p h (subst (λ (k : ℕ). p < k) e l)))
+    consistent s = (
+      s .full,
+      λ r d h e.
+          let row = getD rows r d in
+          let same = rule-same (placeCount places) rows r d (omega arith) e in
+          calm-consistent row b (subst (λ (k : ℕ). Full amounts k b) (sym e) (s .full)) (λ p l. ap (λ (rule : Rule Amount). rule .answer p b) (sym same) ∙ s .calm r p h (subst (λ (k : ℕ). p < k) e l)),
+    )
 
     settled : Full amounts (placeCount places) b × All-consistent (placeCount places) (ruleCount (length rows)) rows b → Settled amounts (sumBook places rows) b
     settled z = record { full = z .0; calm = λ r p h l. each r p h l (first-row rows r (omega arith)) }

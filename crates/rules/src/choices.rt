@@ -12,7 +12,7 @@ pub use apart::ApartRow;
 pub use apart::kept_apart;
 pub use arc::arc_consistency;
 pub use book::ChoiceBook;
-pub use book::ChoiceBookRules;
+pub use book::ChoiceBookBook;
 pub use pair::PairRow;
 pub use row::ChoiceRow;
 pub use side::Side;

@@ -33,7 +33,7 @@ impl<'t> ChoiceBook<'t> {
     }
 }
 
-pub impl<'t> Book for ChoiceBook<'t> as ChoiceBookRules {
+pub impl<'t> Book for ChoiceBook<'t> as ChoiceBookBook {
     type Span = Choice;
 
     ghost meaning = { λ b. choiceBook (b .places) (now (b .rows)) };

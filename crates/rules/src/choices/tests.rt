@@ -1,6 +1,6 @@
 use super::ApartRow;
 use super::ChoiceBook;
-use super::ChoiceBookRules;
+use super::ChoiceBookBook;
 use super::ChoiceRow;
 use super::PairRow;
 use super::Side;

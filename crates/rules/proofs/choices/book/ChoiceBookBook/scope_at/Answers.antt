@@ -8,7 +8,7 @@ use Rattle.rules.specs.ChoiceRules.{linkOf}
 use Rattle.rules.specs.ChoiceBooks.{placesIn}
 use Rattle.rules.proofs.ChoiceLaws.{own-rule, no-rule}
 use Rattle.rules.proofs.Answering.{only-at, first-at, second-at}
-use Rattle.rules.proofs.choices.book.ChoiceBookRules.scope_at.Needs as need
+use Rattle.rules.proofs.choices.book.ChoiceBookBook.scope_at.Needs as need
 
 pub returns-then-places : need.returns-then-places
 returns-then-places c =

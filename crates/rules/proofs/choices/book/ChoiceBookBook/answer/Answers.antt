@@ -11,7 +11,7 @@ use Rattle.rules.specs.ChoiceRules.{linkOf}
 use Rattle.rules.specs.ChoiceBooks.{placesIn}
 use Rattle.rules.proofs.ChoiceLaws.{row-places, own-rule, no-rule}
 use Rattle.rules.proofs.Answering.{read-span}
-use Rattle.rules.proofs.choices.book.ChoiceBookRules.answer.Needs as need
+use Rattle.rules.proofs.choices.book.ChoiceBookBook.answer.Needs as need
 
 pub returns-then-places : need.returns-then-places
 returns-then-places c =

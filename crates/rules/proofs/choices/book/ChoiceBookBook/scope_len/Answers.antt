@@ -5,7 +5,7 @@ use Rattle.spans.specs.declared.choice.Choice.{Choice}
 use Rattle.books.specs.Meaning.{Rule}
 use Rattle.rules.specs.ChoiceBooks.{placesIn}
 use Rattle.rules.proofs.ChoiceLaws.{own-rule, no-rule}
-use Rattle.rules.proofs.choices.book.ChoiceBookRules.scope_len.Needs as need
+use Rattle.rules.proofs.choices.book.ChoiceBookBook.scope_len.Needs as need
 
 pub returns-then-places : need.returns-then-places
 returns-then-places c =
