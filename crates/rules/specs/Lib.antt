@@ -1,0 +1,16 @@
+pub mod Worked
+pub mod ChoiceTests
+pub mod Sides
+pub mod TokenSets
+pub mod Between
+pub mod ChoiceRows
+pub mod ChoiceRules
+pub mod ChoiceBooks
+pub mod ArcConsistency
+pub mod SumTerms
+pub mod SumRows
+pub mod Sums
+pub mod SumBooks
+pub mod SumIntervals
+pub mod SumConsistency
+pub mod SumExamples
