@@ -1,17 +1,16 @@
 -- The answers of sums, bounds consistency and arc consistency: the proofs. Assumes nothing.
 use mathlib.Core.Path.{_≡_, refl, sym, ap, ap₂, _∙_, subst}
-use mathlib.Core.Logic.{_⊎_, inl, inr, _↔_}
+use mathlib.Core.Logic.{_⊎_, inl, inr}
 use mathlib.Core.Bool.{Bool, true, false, cond, _&&_}
 use mathlib.Core.List.{List, [], _∷_, map}
-use Prim.Native.Nat.{ℕ, zero, suc, _+_, _≤_, _<_}
+use Prim.Native.Nat.{ℕ, zero, suc, _+_, _<_}
 use native.Mathlib.Omega.{arith}
 use lib.Dec.{T, eqb}
 use lib.IntN.{ℤ, pos, _+ℤ_, _*ℤ_}
 use lib.ListN.{length, getD}
-use lib.Signed.{_≤ℤ_, leZ, ltZ, leZ-yes}
-use Rattle.std.specs.declared.option.Option.the-variants.{Some, None}
-use Rattle.std.proofs.shelf.Signed.{ints}
-use Rattle.std.proofs.shelf.Tests.{cond-true, cond-false, cond-both, eq-eqb, ne-eqb, eqb-true, eqb-false, cases-eq}
+use lib.Signed.{leZ, ltZ}
+use Rattle.std.specs.declared.option.Option.the-variants.{None}
+use Rattle.std.proofs.shelf.Tests.{cond-true, cond-false, cond-both, eq-eqb, ne-eqb, eqb-true, cases-eq}
 use Rattle.spans.specs.Tests.{both, join, alike}
 use Rattle.spans.specs.Amounts.{amountAdmits, amountSize}
 use Rattle.spans.specs.AmountKind.{amounts}
@@ -20,18 +19,18 @@ use Rattle.books.specs.Boards.{Among, Distinct, spanAt, numberAt, Full, On}
 use Rattle.books.specs.Settled.{Settled}
 use Rattle.books.specs.Meaning.{Rule}
 use Rattle.books.proofs.Filters.{among-or-not}
-use Rattle.rules.specs.SumTerms.{placeOf, areTerms}
+use Rattle.rules.specs.SumTerms.{placeOf}
 use Rattle.rules.specs.SumRows.{blank, termsOf}
 use Rattle.rules.specs.Sums.{total, productIn, sumOf, stands, others, leastOn, greatestOn, leastProduct, greatestProduct, low, high, coefficientAt, mayStay}
-use Rattle.rules.specs.SumBooks.{placeCount, ruleCount, noRule, ruleAt, sumBook}
+use Rattle.rules.specs.SumBooks.{placeCount, ruleCount, ruleAt, sumBook}
 use Rattle.rules.specs.SumIntervals.{projected}
-use Rattle.rules.specs.SumConsistency.{ruleOf, placeAt, FullFor, Exact-law, Calm, Bounds-consistent, Bounds-law, Arc-consistent, Inequality, Arc-law, All-consistent, Settled-law}
+use Rattle.rules.specs.SumConsistency.{ruleOf, placeAt, FullFor, Exact-law, Calm, Bounds-consistent, Bounds-law, Inequality, Arc-law, All-consistent, Settled-law}
 use Rattle.rules.specs.declared.sums.term.Relation.{Relation}
 use Rattle.rules.specs.declared.sums.term.Relation.the-variants.{AtMost, AtLeast, Equal}
 use Rattle.rules.specs.declared.sums.term.Term.{Term}
 use Rattle.rules.specs.declared.sums.row.SumRow.{SumRow}
 use Rattle.rules.proofs.SumTotals.{total-same, total-split, other-among, at-among, place-among, ends-admitted, least-under, least-reached, greatest-over, greatest-reached}
-use Rattle.rules.proofs.SumIndexes.{Fair, sum-fair, places-counted, places-once, Index, index-of}
+use Rattle.rules.proofs.SumIndexes.{Fair, sum-fair, places-counted, places-once, index-of}
 use Rattle.rules.proofs.SumAnswers.{row-sum}
 use Rattle.rules.proofs.SumLaws.{index, coefficient-good, answer-exact, sum-sound}
 use Rattle.rules.proofs.SumBooking.{rule-same, rule-other}
@@ -214,11 +213,11 @@ module _ (places : ℕ) (ts : List Term) (once : Distinct (map placeOf ts)) (cou
       total-split (productIn support) i ts within
       ∙ ap₂ _+ℤ_ (ap (λ (z : ℤ). coefficientAt ts i *ℤ z) support-here)
       (total-same (productIn support) (λ t. t .coefficient *ℤ end (t .coefficient) (spanAt amounts b (t .place))) (others i ts) (λ t m.
-          let n = other-among i ts t m in
-          ap (λ (z : ℤ). t .coefficient *ℤ z)
-          (chosen (t .place) (counted (t .place) (place-among ts t n))
-          ∙ cond-false (eqb (t .place) p) x _ (ne-eqb (t .place) p (other-places i ts once within t m))
-          ∙ ap (λ (z : ℤ). end z (spanAt amounts b (t .place))) (coefficient-is ts once t n))))
+      let n = other-among i ts t m in
+      ap (λ (z : ℤ). t .coefficient *ℤ z)
+      (chosen (t .place) (counted (t .place) (place-among ts t n))
+      ∙ cond-false (eqb (t .place) p) x _ (ne-eqb (t .place) p (other-places i ts once within t m))
+      ∙ ap (λ (z : ℤ). end z (spanAt amounts b (t .place))) (coefficient-is ts once t n))))
 
 module _ (row : SumRow) (b : List Amount) (full : FullFor row b) (i : ℕ) (within : i < length (termsOf row)) (x : ℤ) (admitted : T (amountAdmits (spanAt amounts b (placeAt row i)) x)) where
   supports : (relation : Relation) → Inequality relation → T (mayStay relation (row .bound) (termsOf row) i b x)
@@ -230,8 +229,7 @@ module _ (row : SumRow) (b : List Amount) (full : FullFor row b) (i : ℕ) (with
       let c = places-counted n ts (fair row .good) in
       let d = once row in
       let sum = support-sum n ts d c i within b full x admitted leastEnd least-end-admitted
-      ∙ ap (λ (z : ℤ). coefficientAt ts i *ℤ x +ℤ z) (total-same _ (leastOn b) (others i ts) (λ u m. least-end (u .coefficient) (spanAt amounts b (u .place)))) in
-      (
+      ∙ ap (λ (z : ℤ). coefficientAt ts i *ℤ x +ℤ z) (total-same _ (leastOn b) (others i ts) (λ u m. least-end (u .coefficient) (spanAt amounts b (u .place)))) in (
         support n ts d c i within b full x admitted leastEnd least-end-admitted,
         support-on n ts d c i within b full x admitted leastEnd least-end-admitted,
         support-here n ts d c i within b full x admitted leastEnd least-end-admitted,
@@ -243,8 +241,7 @@ module _ (row : SumRow) (b : List Amount) (full : FullFor row b) (i : ℕ) (with
       let c = places-counted n ts (fair row .good) in
       let d = once row in
       let sum = support-sum n ts d c i within b full x admitted greatestEnd greatest-end-admitted
-      ∙ ap (λ (z : ℤ). coefficientAt ts i *ℤ x +ℤ z) (total-same _ (greatestOn b) (others i ts) (λ u m. greatest-end (u .coefficient) (spanAt amounts b (u .place)))) in
-      (
+      ∙ ap (λ (z : ℤ). coefficientAt ts i *ℤ x +ℤ z) (total-same _ (greatestOn b) (others i ts) (λ u m. greatest-end (u .coefficient) (spanAt amounts b (u .place)))) in (
         support n ts d c i within b full x admitted greatestEnd greatest-end-admitted,
         support-on n ts d c i within b full x admitted greatestEnd greatest-end-admitted,
         support-here n ts d c i within b full x admitted greatestEnd greatest-end-admitted,
@@ -274,10 +271,13 @@ settled-law places rows b = (consistent, settled)
     n = placeCount places
 
     consistent : Settled amounts (sumBook places rows) b → Full amounts (placeCount places) b × All-consistent (placeCount places) (ruleCount (length rows)) rows b
-    consistent s = (s .full, λ r d h e.
-        let row = getD rows r d in
-        let same = rule-same (placeCount places) rows r d (omega arith) e in
-        calm-consistent row b (subst (λ (k : ℕ). Full amounts k b) (sym e) (s .full)) (λ p l. ap (λ (rule : Rule Amount). rule .answer p b) (sym same) ∙ s .calm r p h (subst (λ (k : ℕ). p < k) e l)))
+    consistent s = (
+      s .full,
+      λ r d h e.
+          let row = getD rows r d in
+          let same = rule-same (placeCount places) rows r d (omega arith) e in
+          calm-consistent row b (subst (λ (k : ℕ). Full amounts k b) (sym e) (s .full)) (λ p l. ap (λ (rule : Rule Amount). rule .answer p b) (sym same) ∙ s .calm r p h (subst (λ (k : ℕ). p < k) e l)),
+    )
 
     settled : Full amounts (placeCount places) b × All-consistent (placeCount places) (ruleCount (length rows)) rows b → Settled amounts (sumBook places rows) b
     settled z = record { full = z .0; calm = λ r p h l. each r p h l (first-row rows r (omega arith)) }

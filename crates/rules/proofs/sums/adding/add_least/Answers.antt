@@ -1,9 +1,6 @@
-use mathlib.Core.Path.{_≡_, sym, subst, _∙_}
+use mathlib.Core.Path.{sym, subst}
 use native.Mathlib.Omega.{arith}
-use lib.IntN.{ℤ}
 use lib.ListN.{length, getD}
-use mir.Syntax.{w64}
-use mir.Val.{toZ, ofZ}
 use Rattle.std.proofs.shelf.Signed.{ints}
 use Rattle.rules.specs.SumRows.{blank}
 use Rattle.rules.specs.Sums.{leastProduct, leastOn, low}
@@ -48,11 +45,11 @@ loop-i-again c =
     let k = coefficient-at (length b) ts i h (c .pre .terms) in
     elim (c .if-i-asked .came) [
       | then-i-asked w ↦
-        (let z = w .least-product-total .result in
-        let e = product-on b t k (place-at (length b) ts i h (c .pre .terms)) leastProduct (w .index-board-t .result) z (w .index-board-t .is) (w .least-product-total .ensures) in
-        let n = subst (Near 10_000_000_000) (sym e) (least-near (t .coefficient) _ k) in
-        let m = c .loop-i .inv .near in
-        adding-more (leastOn b) (c .args .asked) ts i _ (c .loop-i .inv) h (w .if-i-asked .taken) z _ e n (omega (arith, ints, n .low, n .high, m .low, m .high, h, c .pre .few, w .total-is)))
+          (let z = w .least-product-total .result in
+          let e = product-on b t k (place-at (length b) ts i h (c .pre .terms)) leastProduct (w .index-board-t .result) z (w .index-board-t .is) (w .least-product-total .ensures) in
+          let n = subst (Near 10_000_000_000) (sym e) (least-near (t .coefficient) _ k) in
+          let m = c .loop-i .inv .near in
+          adding-more (leastOn b) (c .args .asked) ts i _ (c .loop-i .inv) h (w .if-i-asked .taken) z _ e n (omega (arith, ints, n .low, n .high, m .low, m .high, h, c .pre .few, w .total-is)))
       | else-i-asked w ↦ subst (Adding (leastOn b) (c .args .asked) ts _) (sym (w .total-is)) (adding-pass (leastOn b) (c .args .asked) ts i _ (c .loop-i .inv) h (w .if-i-asked .left))
     ]
 
