@@ -9,7 +9,7 @@ use lib.Dec.{T, eqb, leb, ltb, eqb-refl, ltb→lt, lit≤}
 use lib.ListN.{length, getD, take}
 use Rattle.std.proofs.shelf.Lists.{getD-map}
 use Rattle.std.proofs.shelf.Tests.{eq-eqb, ne-eqb, eqb-true, cond-true, cond-false, cond-both, cases-eq}
-use Rattle.spans.specs.Tests.{both}
+use Rattle.spans.specs.Bools.{both}
 use Rattle.spans.specs.ChoiceKind.{choices}
 use Rattle.spans.specs.declared.choice.Choice.{Choice}
 use Rattle.books.specs.Boards.{Among, spanAt, Full}

@@ -10,7 +10,7 @@ use lib.IntN.{ℤ, pos, negsuc}
 use Rattle.std.proofs.shelf.Tests.{lt-ltb, le-ltb, eq-eqb, ne-eqb, and-left, cond-false, cases-lt, cases-eq}
 use Rattle.std.specs.declared.option.Option.the-variants.{Some, None}
 use Rattle.spans.specs.Kind.{leastOf}
-use Rattle.spans.specs.Tests.{both, join, alike}
+use Rattle.spans.specs.Bools.{both, join, alike}
 use Rattle.spans.specs.Masks.{tokens, bit}
 use Rattle.spans.specs.MaskLaws.{bit-above}
 use Rattle.spans.specs.Choices.{choiceAdmits, choiceSize, choiceLeast, choiceMeet, Exactly}

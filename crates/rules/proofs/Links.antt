@@ -8,7 +8,7 @@ use native.Mathlib.Omega.{arith}
 use lib.Dec.{T, eqb, lit≤}
 use lib.IntN.{ℤ, pos, negsuc}
 use Rattle.std.proofs.shelf.Tests.{eq-eqb, ne-eqb, or-from, or-left, or-right, cond-true, cond-false}
-use Rattle.spans.specs.Tests.{both, join, alike}
+use Rattle.spans.specs.Bools.{both, join, alike}
 use Rattle.spans.specs.Choices.{choiceAdmits, choiceSize}
 use Rattle.spans.specs.ChoiceKind.{choices}
 use Rattle.spans.specs.declared.choice.Choice.{Choice}

@@ -10,7 +10,7 @@ use lib.Count.{trailingZeros}
 use lib.Dec.{T, eqb, eqb→eq, eqb-refl}
 use lib.IntN.{ℤ, pos, negsuc}
 use Rattle.std.proofs.shelf.Tests.{eq-eqb, cases-lt, cases-eq}
-use Rattle.spans.specs.Tests.{both, join, either, first}
+use Rattle.spans.specs.Bools.{both, join, either, first}
 use Rattle.spans.specs.Masks.{tokens}
 use Rattle.spans.specs.Choices.{choiceAdmits, choiceSize, choiceLeast}
 use Rattle.spans.specs.ChoiceKind.{choices}

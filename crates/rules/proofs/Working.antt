@@ -10,7 +10,7 @@ use lib.Count.{ones, onesIn}
 use lib.Dec.{T, eqb, eqb→eq}
 use lib.IntN.{ℤ}
 use lib.Signed.{leZ, _≤ℤ_, leZ-yes}
-use Rattle.spans.specs.Tests.{both}
+use Rattle.spans.specs.Bools.{both}
 use Rattle.spans.specs.Masks.{bit}
 use Rattle.spans.specs.AmountKind.{amounts}
 use Rattle.spans.specs.AmountLaws.{same-bounds}
