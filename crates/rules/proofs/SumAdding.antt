@@ -1,15 +1,14 @@
 -- Adding what terms come to: totals, and the turns of the loops that add. Assumes nothing.
 use mathlib.Core.Path.{_≡_, refl, sym, ap, ap₂, _∙_, subst}
-use mathlib.Core.Logic.{_⊎_, inl, inr}
-use mathlib.Core.Bool.{Bool, true, false, cond, not, _&&_}
-use mathlib.Core.List.{List, [], _∷_, map}
+use mathlib.Core.Bool.{Bool, true, false, cond, _&&_}
+use mathlib.Core.List.{List, [], _∷_}
 use Prim.Native.Nat.{ℕ, zero, suc, _+_, _*_, _≤_, _<_}
 use native.Mathlib.Numerals.{add-one}
 use native.Mathlib.Omega.{arith}
-use lib.Dec.{T, eqb, ltb, ltb→lt}
-use lib.IntN.{ℤ, pos, negℤ, _+ℤ_, _*ℤ_, +ℤ-idl, +ℤ-idr, +ℤ-assoc}
+use lib.Dec.{T, eqb, ltb→lt}
+use lib.IntN.{ℤ, pos, _+ℤ_, _*ℤ_, +ℤ-idl, +ℤ-idr, +ℤ-assoc}
 use lib.ListN.{length, drop, getD}
-use lib.Signed.{_≤ℤ_, ltZ}
+use lib.Signed.{ltZ}
 use mir.Syntax.{w32, w64}
 use mir.Val.{SFits, toZ, ofZ}
 use Rattle.std.proofs.shelf.Lists.{at-drop-more, at-drop-all, getD-default}
@@ -25,7 +24,7 @@ use Rattle.rules.specs.SumTerms.{isCoefficient, isTerm, areTerms}
 use Rattle.rules.specs.SumRows.{blank}
 use Rattle.rules.specs.Sums.{total, others, leastProduct, greatestProduct}
 use Rattle.rules.specs.declared.sums.term.Term.{Term}
-use Rattle.rules.proofs.SumProducts.{Coefficient, coefficient-is, Near, product-near}
+use Rattle.rules.proofs.SumProducts.{coefficient-is, Near, product-near}
 
 -- what each of the terms keeps to
 pub term-at : (places : ℕ) (ts : List Term) (i : ℕ) → i < length ts → T (areTerms places ts) → T (isTerm places (getD ts i blank))

@@ -1,14 +1,14 @@
 -- How the answer of a sum is computed. Assumes nothing.
-use mathlib.Core.Path.{_≡_, refl, sym, ap, _∙_, subst}
-use mathlib.Core.Logic.{_⊎_, inl, inr}
-use mathlib.Core.Bool.{Bool, true, false, _&&_}
+use mathlib.Core.Path.{_≡_, refl, sym, _∙_, subst}
+use mathlib.Core.Logic.{inl, inr}
+use mathlib.Core.Bool.{_&&_}
 use mathlib.Core.List.{List, [], _∷_}
 use Prim.Native.Nat.{ℕ, zero, suc, _*_, _≤_, _<_}
 use native.Mathlib.Omega.{arith}
 use lib.Dec.{T, leb, leb→le}
-use lib.IntN.{ℤ, pos, negℤ, _+ℤ_}
-use lib.ListN.{length, take, getD}
-use lib.Signed.{_≤ℤ_, leZ, leZ-yes}
+use lib.IntN.{ℤ, pos, negℤ}
+use lib.ListN.{length}
+use lib.Signed.{leZ, leZ-yes}
 use Rattle.std.specs.declared.option.Option.{Option}
 use Rattle.std.specs.declared.option.Option.the-variants.{Some}
 use Rattle.std.proofs.shelf.Signed.{ints}
@@ -16,7 +16,7 @@ use Rattle.spans.specs.Tests.{both}
 use Rattle.spans.specs.declared.amount.Amount.{Amount}
 use Rattle.books.specs.Boards.{Among}
 use Rattle.rules.specs.SumTerms.{isCoefficient, isTerm, areTerms, isBound, isSum}
-use Rattle.rules.specs.SumRows.{blank, termsOf}
+use Rattle.rules.specs.SumRows.{termsOf}
 use Rattle.rules.specs.Sums.{total, others, leastOn, greatestOn, low, high, askedIn}
 use Rattle.rules.specs.declared.sums.term.Term.{Term}
 use Rattle.rules.specs.declared.sums.row.SumRow.{SumRow}

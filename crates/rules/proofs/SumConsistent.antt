@@ -1,17 +1,16 @@
 -- The answers of sums, bounds consistency and arc consistency: the proofs. Assumes nothing.
 use mathlib.Core.Path.{_≡_, refl, sym, ap, ap₂, _∙_, subst}
-use mathlib.Core.Logic.{_⊎_, inl, inr, _↔_}
+use mathlib.Core.Logic.{_⊎_, inl, inr}
 use mathlib.Core.Bool.{Bool, true, false, cond, _&&_}
 use mathlib.Core.List.{List, [], _∷_, map}
-use Prim.Native.Nat.{ℕ, zero, suc, _+_, _≤_, _<_}
+use Prim.Native.Nat.{ℕ, zero, suc, _+_, _<_}
 use native.Mathlib.Omega.{arith}
 use lib.Dec.{T, eqb}
 use lib.IntN.{ℤ, pos, _+ℤ_, _*ℤ_}
 use lib.ListN.{length, getD}
-use lib.Signed.{_≤ℤ_, leZ, ltZ, leZ-yes}
-use Rattle.std.specs.declared.option.Option.the-variants.{Some, None}
-use Rattle.std.proofs.shelf.Signed.{ints}
-use Rattle.std.proofs.shelf.Tests.{cond-true, cond-false, cond-both, eq-eqb, ne-eqb, eqb-true, eqb-false, cases-eq}
+use lib.Signed.{leZ, ltZ}
+use Rattle.std.specs.declared.option.Option.the-variants.{None}
+use Rattle.std.proofs.shelf.Tests.{cond-true, cond-false, cond-both, eq-eqb, ne-eqb, eqb-true, cases-eq}
 use Rattle.spans.specs.Tests.{both, join, alike}
 use Rattle.spans.specs.Amounts.{amountAdmits, amountSize}
 use Rattle.spans.specs.AmountKind.{amounts}
@@ -20,18 +19,18 @@ use Rattle.books.specs.Boards.{Among, Distinct, spanAt, numberAt, Full, On}
 use Rattle.books.specs.Settled.{Settled}
 use Rattle.books.specs.Meaning.{Rule}
 use Rattle.books.proofs.Filters.{among-or-not}
-use Rattle.rules.specs.SumTerms.{placeOf, areTerms}
+use Rattle.rules.specs.SumTerms.{placeOf}
 use Rattle.rules.specs.SumRows.{blank, termsOf}
 use Rattle.rules.specs.Sums.{total, productIn, sumOf, stands, others, leastOn, greatestOn, leastProduct, greatestProduct, low, high, coefficientAt, mayStay}
-use Rattle.rules.specs.SumBooks.{placeCount, ruleCount, noRule, ruleAt, sumBook}
+use Rattle.rules.specs.SumBooks.{placeCount, ruleCount, ruleAt, sumBook}
 use Rattle.rules.specs.SumIntervals.{projected}
-use Rattle.rules.specs.SumConsistency.{ruleOf, placeAt, FullFor, Exact-law, Calm, Bounds-consistent, Bounds-law, Arc-consistent, Inequality, Arc-law, All-consistent, Settled-law}
+use Rattle.rules.specs.SumConsistency.{ruleOf, placeAt, FullFor, Exact-law, Calm, Bounds-consistent, Bounds-law, Inequality, Arc-law, All-consistent, Settled-law}
 use Rattle.rules.specs.declared.sums.term.Relation.{Relation}
 use Rattle.rules.specs.declared.sums.term.Relation.the-variants.{AtMost, AtLeast, Equal}
 use Rattle.rules.specs.declared.sums.term.Term.{Term}
 use Rattle.rules.specs.declared.sums.row.SumRow.{SumRow}
 use Rattle.rules.proofs.SumTotals.{total-same, total-split, other-among, at-among, place-among, ends-admitted, least-under, least-reached, greatest-over, greatest-reached}
-use Rattle.rules.proofs.SumIndexes.{Fair, sum-fair, places-counted, places-once, Index, index-of}
+use Rattle.rules.proofs.SumIndexes.{Fair, sum-fair, places-counted, places-once, index-of}
 use Rattle.rules.proofs.SumAnswers.{row-sum}
 use Rattle.rules.proofs.SumLaws.{index, coefficient-good, answer-exact, sum-sound}
 use Rattle.rules.proofs.SumBooking.{rule-same, rule-other}

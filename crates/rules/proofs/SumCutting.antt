@@ -1,5 +1,5 @@
 -- What is kept of a span, and what it admits. Assumes nothing.
-use mathlib.Core.Path.{_≡_, refl, sym, ap, ap₂, _∙_, subst}
+use mathlib.Core.Path.{_≡_, refl, sym, ap, _∙_, subst}
 use mathlib.Core.Logic.{⊎-elim}
 use mathlib.Core.Bool.{Bool, true, false, cond, _&&_}
 use Prim.Native.Nat.{ℕ}
@@ -8,19 +8,16 @@ use native.Mathlib.Omega.{arith}
 use lib.Dec.{T}
 use lib.IntN.{ℤ, pos, negsuc, negℤ, _*ℤ_}
 use lib.Signed.{_≤ℤ_, _<ℤ_, leZ, ltZ, leZ-yes}
-use mir.Syntax.{w32, w64}
-use mir.Val.{SFits, toZ, ofZ}
 use Rattle.std.specs.Numbers.{divEuclid, maxZ, minZ}
-use Rattle.std.proofs.shelf.Signed.{ints, clamps, toZ-ofZ}
+use Rattle.std.proofs.shelf.Signed.{ints, clamps}
 use Rattle.std.proofs.shelf.Tests.{cond-true, cond-false}
 use Rattle.spans.specs.Tests.{both, join, alike}
-use Rattle.spans.specs.Numbers.{million}
 use Rattle.spans.specs.Bounds.{bounded}
 use Rattle.spans.specs.BoundLaws.{Bounded, bounded-is, is-bounded}
 use Rattle.spans.specs.Amounts.{amountAdmits, amountFrom, fromTo, noAmount}
 use Rattle.spans.specs.AmountLaws.{bounds, admits-is, is-admitted, from-admits}
 use Rattle.spans.specs.declared.amount.Amount.{Amount}
-use Rattle.spans.proofs.Amounting.{from-empty, reach}
+use Rattle.spans.proofs.Amounting.{from-empty}
 use Rattle.rules.specs.Sums.{keepAtMost, keepAtLeast}
 use Rattle.rules.proofs.SumProducts.{Coefficient, Near, quotient-test, quotient-test-neg, times-neg}
 

@@ -1,12 +1,12 @@
 -- Sums keep the laws of rules. Assumes nothing.
 use mathlib.Core.Path.{_≡_, refl, sym, ap, ap₂, _∙_, subst}
-use mathlib.Core.Logic.{_⊎_, inl, inr}
-use mathlib.Core.Bool.{Bool, true, false, cond, _&&_}
+use mathlib.Core.Logic.{inl, inr}
+use mathlib.Core.Bool.{Bool, true, false, _&&_}
 use mathlib.Core.List.{List, [], _∷_, map}
 use Prim.Native.Nat.{ℕ, zero, suc, _+_, _≤_, _<_}
 use native.Mathlib.Omega.{arith}
 use lib.Dec.{T, eqb}
-use lib.IntN.{ℤ, pos, negℤ, _+ℤ_, _-ℤ_, _*ℤ_}
+use lib.IntN.{ℤ, _+ℤ_, _-ℤ_, _*ℤ_}
 use lib.ListN.{length, getD}
 use lib.Signed.{_≤ℤ_, leZ, leZ-yes}
 use Rattle.std.specs.declared.option.Option.{Option}
@@ -18,13 +18,13 @@ use Rattle.spans.specs.Tests.{both, join, alike}
 use Rattle.spans.specs.Amounts.{amountAdmits}
 use Rattle.spans.specs.AmountKind.{amounts}
 use Rattle.spans.specs.declared.amount.Amount.{Amount}
-use Rattle.books.specs.Boards.{Among, Distinct, spanAt, numberAt, Full, Inside, On}
-use Rattle.books.specs.Meaning.{Rule, Sound, Lawful}
+use Rattle.books.specs.Boards.{Among, spanAt, numberAt, Full, Inside, On}
+use Rattle.books.specs.Meaning.{Sound, Lawful}
 use Rattle.books.proofs.Filters.{Filter, filter-sound, idle-sound, one-number}
-use Rattle.rules.specs.SumTerms.{placeOf, isCoefficient, areTerms, isSum}
+use Rattle.rules.specs.SumTerms.{placeOf, isSum}
 use Rattle.rules.specs.SumRows.{blank, termsOf}
-use Rattle.rules.specs.Sums.{total, productIn, sumOf, stands, others, leastOn, greatestOn, leastProduct, greatestProduct, low, high, coefficientAt, keepAtMost, keepAtLeast, cut, mayStay, indexFrom, askedIn, answered, sumRule}
-use Rattle.rules.specs.SumBooks.{placeCount, ruleCount, noRule, rowRule, ruleAt, sumBook}
+use Rattle.rules.specs.Sums.{total, productIn, sumOf, stands, others, leastOn, greatestOn, leastProduct, greatestProduct, low, high, coefficientAt, keepAtMost, cut, mayStay, indexFrom, answered, sumRule}
+use Rattle.rules.specs.SumBooks.{placeCount, noRule, rowRule, ruleAt, sumBook}
 use Rattle.rules.specs.declared.sums.term.Relation.{Relation}
 use Rattle.rules.specs.declared.sums.term.Relation.the-variants.{AtMost, AtLeast, Equal}
 use Rattle.rules.specs.declared.sums.term.Term.{Term}

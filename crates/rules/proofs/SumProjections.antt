@@ -6,24 +6,19 @@ use Prim.Native.Nat.{ℕ, zero, suc, _<_}
 use native.Mathlib.Omega.{arith}
 use lib.Dec.{T}
 use lib.IntN.{ℤ, pos, negsuc, negℤ, _+ℤ_, _-ℤ_, _*ℤ_}
-use lib.ListN.{length, getD}
 use lib.Signed.{_≤ℤ_, leZ, ltZ, leZ-yes}
 use Rattle.std.specs.Numbers.{divEuclid}
-use Rattle.std.specs.declared.option.Option.the-variants.{Some, None}
 use Rattle.std.proofs.shelf.Signed.{ints}
-use Rattle.std.proofs.shelf.Tests.{cond-true, cond-false, lt-ltb, le-ltb}
+use Rattle.std.proofs.shelf.Tests.{lt-ltb, le-ltb}
 use Rattle.spans.specs.Tests.{alike}
-use Rattle.spans.specs.AmountKind.{amounts}
 use Rattle.spans.specs.declared.amount.Amount.{Amount}
-use Rattle.books.specs.Boards.{spanAt}
-use Rattle.rules.specs.SumRows.{blank}
 use Rattle.rules.specs.Sums.{total, others, leastOn, greatestOn, leastProduct, greatestProduct, low, high, coefficientAt, mayStay}
-use Rattle.rules.specs.SumIntervals.{Interval, plus, minus, multiple, extension, Rational, whole, NotAbove, minusInverse, times, scaled, roundDown, roundUp, solved, Range, turned, bounded, projection, inward, inRange, projected}
+use Rattle.rules.specs.SumIntervals.{Interval, minus, extension, Rational, whole, NotAbove, minusInverse, times, scaled, roundDown, roundUp, turned, bounded, inward, inRange, projected}
 use Rattle.rules.specs.SumConsistency.{Rounding-law}
 use Rattle.rules.specs.declared.sums.term.Relation.{Relation}
 use Rattle.rules.specs.declared.sums.term.Relation.the-variants.{AtMost, AtLeast, Equal}
 use Rattle.rules.specs.declared.sums.term.Term.{Term}
-use Rattle.rules.proofs.SumProducts.{Coefficient, above, times-neg, quotient-test}
+use Rattle.rules.proofs.SumProducts.{Coefficient, times-neg, quotient-test}
 
 -- the terms on intervals give low and high
 extension-lower : (b : List Amount) (ts : List Term) → extension b ts .lower ≡ total (leastOn b) ts

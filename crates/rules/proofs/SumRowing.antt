@@ -1,16 +1,17 @@
 -- How the rows of sums are made: the turns of its loops. Assumes nothing.
-use mathlib.Core.Path.{_≡_, refl, sym, ap, subst, _∙_}
+use mathlib.Core.Path.{_≡_, refl, sym, ap, ap₂, subst, _∙_}
 use mathlib.Core.Bool.{Bool, true, false, not, _&&_, _||_}
-use mathlib.Core.List.{List, [], _∷_, _++_, map}
-use Prim.Native.Nat.{ℕ, _+_, _<_, _≤_}
+use mathlib.Core.List.{List, _++_}
+use Prim.Native.Nat.{ℕ, _+_, _<_}
 use lib.Dec.{T, eqb, leb}
 use lib.IntN.{ℤ}
-use lib.ListN.{length, take, drop, getD}
+use lib.ListN.{length, take, drop, replicate, getD}
 use Rattle.std.proofs.shelf.Lists.{at-drop-more, take-at}
 use Rattle.std.proofs.shelf.Tests.{eq-eqb, ne-eqb, or-left, and-left, and-right, and-parts, and-from, not-from-true}
 use Rattle.rules.specs.SumTerms.{isTerm, areTerms, isBound, isSum}
-use Rattle.rules.specs.SumRows.{uses, blank}
+use Rattle.rules.specs.SumRows.{uses, blank, padded, termsOf}
 use Rattle.rules.specs.declared.sums.term.Term.{Term}
+use Rattle.rules.specs.declared.sums.row.SumRow.{SumRow}
 
 module _ (ts : List Term) (i : ℕ) (h : i < length ts) where
   pub uses-here : (p : ℕ) → getD ts i blank .place ≡ p → uses (drop i ts) p ≡ true
@@ -43,3 +44,7 @@ made-ok places bound ts rest e =
     let parts = and-parts (isBound bound && leb 1 (length ts) && leb (length ts) 16) (areTerms places ts) e in
     let few = and-parts (isBound bound && leb 1 (length ts)) (leb (length ts) 16) (parts .0) .1 in
     is-true _ (and-from (leb (length ts) 16) _ few (ap (isSum places bound) (take-at ts rest (length ts) refl) ∙ e))
+
+-- a row that is made holds the terms that were given
+pub made-terms : (row : SumRow) (ts : List Term) → row .count ≡ length ts → row .terms ≡ padded ts → termsOf row ≡ ts
+made-terms row ts p q = ap₂ take p q ∙ take-at ts (drop (length ts) (replicate 16 blank)) (length ts) refl

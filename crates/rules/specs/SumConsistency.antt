@@ -1,14 +1,14 @@
 -- How the answers of sums stand to bounds consistency and to arc consistency: the statements. Assumes nothing.
 use mathlib.Core.Path.{_≡_}
 use mathlib.Core.Logic.{_↔_}
-use mathlib.Core.Bool.{Bool, _&&_}
-use mathlib.Core.List.{List, [], _∷_, map}
+use mathlib.Core.Bool.{_&&_}
+use mathlib.Core.List.{List, map}
 use Prim.Native.Nat.{ℕ, _<_}
 use lib.Dec.{T}
-use lib.IntN.{ℤ, pos, _+ℤ_, _*ℤ_}
+use lib.IntN.{ℤ, _*ℤ_}
 use lib.ListN.{length, getD}
 use lib.Signed.{_≤ℤ_}
-use Rattle.spans.specs.Amounts.{amountAdmits, amountSize, amountFrom}
+use Rattle.spans.specs.Amounts.{amountAdmits, amountSize}
 use Rattle.spans.specs.AmountKind.{amounts}
 use Rattle.spans.specs.declared.amount.Amount.{Amount}
 use Rattle.books.specs.Boards.{Among, spanAt, numberAt, Full, On}
@@ -16,12 +16,11 @@ use Rattle.books.specs.Meaning.{Rule}
 use Rattle.books.specs.Settled.{Settled}
 use Rattle.rules.specs.SumTerms.{placeOf}
 use Rattle.rules.specs.SumRows.{blank, termsOf}
-use Rattle.rules.specs.Sums.{leastProduct, greatestProduct, mayStay, sumRule, stands, sumOf}
+use Rattle.rules.specs.Sums.{leastProduct, greatestProduct, mayStay, sumRule}
 use Rattle.rules.specs.SumBooks.{placeCount, ruleCount, sumBook}
 use Rattle.rules.specs.SumIntervals.{Rational, whole, NotAbove, roundDown, roundUp, projected}
 use Rattle.rules.specs.declared.sums.term.Relation.{Relation}
 use Rattle.rules.specs.declared.sums.term.Relation.the-variants.{AtMost, AtLeast, Equal}
-use Rattle.rules.specs.declared.sums.term.Term.{Term}
 use Rattle.rules.specs.declared.sums.row.SumRow.{SumRow}
 
 -- the rule of a row on the boards that it is for, and the place of its term at an index

@@ -3,9 +3,7 @@ use mathlib.Core.Bool.{Bool, true, cond, _&&_}
 use mathlib.Core.List.{List, [], _∷_}
 use Prim.Native.Nat.{ℕ, zero, suc, _<_}
 use native.Mathlib.Omega.{arith}
-use lib.Dec.{T}
 use lib.IntN.{ℤ, pos, negsuc, negℤ, _+ℤ_, _-ℤ_, _*ℤ_}
-use lib.ListN.{length, getD}
 use lib.Signed.{leZ, ltZ, _≤ℤ_}
 use Rattle.std.specs.Numbers.{divEuclid}
 use Rattle.std.specs.declared.option.Option.{Option}
@@ -13,7 +11,6 @@ use Rattle.std.specs.declared.option.Option.the-variants.{Some, None}
 use Rattle.spans.specs.AmountKind.{amounts}
 use Rattle.spans.specs.declared.amount.Amount.{Amount}
 use Rattle.books.specs.Boards.{spanAt}
-use Rattle.rules.specs.SumRows.{blank}
 use Rattle.rules.specs.Sums.{others, coefficientAt}
 use Rattle.rules.specs.declared.sums.term.Relation.{Relation}
 use Rattle.rules.specs.declared.sums.term.Relation.the-variants.{AtMost, AtLeast, Equal}

@@ -12,3 +12,6 @@ pub use book::SumBookBook;
 pub use row::SumRow;
 pub use term::Relation;
 pub use term::Term;
+
+#[cfg(test)]
+mod tests;

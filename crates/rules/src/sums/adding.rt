@@ -33,7 +33,7 @@ fn greatest_product(coefficient: i32, span: Amount) -> i64
 }
 
 // The least products of all terms but the asked one, added.
-pub fn add_least(terms: &[Term], asked: usize, board: &[Amount]) -> i64
+pub(super) fn add_least(terms: &[Term], asked: usize, board: &[Amount]) -> i64
     requires terms { ⌜ T (areTerms (length (now board)) (now terms)) ⌝ }
     requires few { ⌜ length (now terms) ≤ 16 ⌝ }
     ensures { λ r. ⌜ r ≡ low (now (terms .entry)) asked (now (board .entry)) ⌝ }
@@ -48,14 +48,14 @@ pub fn add_least(terms: &[Term], asked: usize, board: &[Amount]) -> i64
 }
 
 // The greatest products of all terms but the asked one, added.
-pub fn add_greatest(terms: &[Term], asked: usize, board: &[Amount]) -> i64
+pub(super) fn add_greatest(terms: &[Term], asked: usize, board: &[Amount]) -> i64
     requires terms { ⌜ T (areTerms (length (now board)) (now terms)) ⌝ }
     requires few { ⌜ length (now terms) ≤ 16 ⌝ }
     ensures { λ r. ⌜ r ≡ high (now (terms .entry)) asked (now (board .entry)) ⌝ }
 {
     let mut total = 0;
-    for (i, t) in terms.iter().enumerate() {
-        if i != asked {
+    for (k, t) in terms.iter().enumerate() {
+        if k != asked {
             total += greatest_product(t.coefficient, board[t.place as usize]);
         }
     }

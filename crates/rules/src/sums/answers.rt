@@ -61,7 +61,7 @@ fn keep_over(span: Amount, bound: i64, terms: &[Term], asked: usize, board: &[Am
 }
 
 // What the sum leaves of the board's span at the place.
-pub fn sum_answer(row: &SumRow, place: Place, board: &[Amount]) -> Amount
+pub(super) fn sum_answer(row: &SumRow, place: Place, board: &[Amount]) -> Amount
     requires place { ⌜ place < length (now board) ⌝ }
     requires whole { ⌜ now row .places ≡ length (now board) ⌝ }
     ensures { λ r. ⌜ r ≡ sumRule (now (row .entry) .relation) (now (row .entry) .bound) (termsOf (now (row .entry))) .answer place (now (board .entry)) ⌝ }

@@ -30,7 +30,7 @@ fn cut_below(span: Amount, limit: i64) -> Amount
 }
 
 // The numbers x of the span with a * x at most r. The quotient is rounded inward, whatever the signs.
-pub fn at_most(span: Amount, a: i32, r: i64) -> Amount
+pub(super) fn at_most(span: Amount, a: i32, r: i64) -> Amount
     requires a { ⌜ T (isCoefficient a) ⌝ }
     requires r { ⌜ negℤ (pos 2_000_000_000_000) ≤ℤ r ⌝ ∗ ⌜ r ≤ℤ pos 2_000_000_000_000 ⌝ }
     ensures { λ s. ⌜ s ≡ keepAtMost a r span ⌝ }
@@ -42,7 +42,7 @@ pub fn at_most(span: Amount, a: i32, r: i64) -> Amount
 }
 
 // Those with a * x at least r.
-pub fn at_least(span: Amount, a: i32, r: i64) -> Amount
+pub(super) fn at_least(span: Amount, a: i32, r: i64) -> Amount
     requires a { ⌜ T (isCoefficient a) ⌝ }
     requires r { ⌜ negℤ (pos 2_000_000_000_000) ≤ℤ r ⌝ ∗ ⌜ r ≤ℤ pos 2_000_000_000_000 ⌝ }
     ensures { λ s. ⌜ s ≡ keepAtLeast a r span ⌝ }

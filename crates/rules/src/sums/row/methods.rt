@@ -19,6 +19,7 @@ const BLANK: Term = Term {
     place: 0,
 };
 
+// Whether a sum may have this bound.
 fn is_bound(bound: i64) -> bool
     ensures { λ r. ⌜ r ≡ isBound bound ⌝ }
 {
@@ -57,6 +58,7 @@ fn are_terms(places: Place, terms: &[Term]) -> bool
     true
 }
 
+// Whether a row may be made of these.
 fn is_sum(places: Place, bound: i64, terms: &[Term]) -> bool
     ensures { λ r. ⌜ r ≡ isSum places bound (now (terms .entry)) ⌝ }
 {
@@ -97,12 +99,14 @@ impl SumRow {
         self.places
     }
 
+    // How the total is to stand to the bound.
     pub fn relation(&self) -> Relation
         ensures { λ r. ⌜ r ≡ now (self .entry) .relation ⌝ }
     {
         self.relation
     }
 
+    // What the total is compared with.
     pub fn bound(&self) -> i64
         ensures { λ r. ⌜ r ≡ now (self .entry) .bound ⌝ }
     {

@@ -1,9 +1,6 @@
-use mathlib.Core.Path.{_≡_, sym, subst, _∙_}
+use mathlib.Core.Path.{sym, subst}
 use native.Mathlib.Omega.{arith}
-use lib.IntN.{ℤ}
 use lib.ListN.{length, getD}
-use mir.Syntax.{w64}
-use mir.Val.{toZ, ofZ}
 use Rattle.std.proofs.shelf.Signed.{ints}
 use Rattle.rules.specs.SumRows.{blank}
 use Rattle.rules.specs.Sums.{leastProduct, leastOn, low}

@@ -1,20 +1,15 @@
-use mathlib.Core.Path.{_≡_, sym, ap, subst, _∙_}
-use mathlib.Core.Bool.{Bool, true, false, cond}
+use mathlib.Core.Path.{_≡_, sym, ap, _∙_}
+use mathlib.Core.Bool.{cond}
 use lib.Dec.{eqb}
-use lib.ListN.{length, getD, drop}
-use native.Mathlib.Omega.{arith}
-use Prim.Native.Nat.{ℕ}
-use Rattle.std.specs.declared.option.Option.{Option}
+use lib.ListN.{length, getD}
 use Rattle.std.specs.declared.option.Option.the-variants.{Some, None}
 use Rattle.std.proofs.shelf.Lists.{at-drop-all, getD-default}
 use Rattle.std.proofs.shelf.Tests.{cond-true, cond-false, eq-eqb, ne-eqb, eqb-true}
 use Rattle.spans.specs.Amounts.{amountSize}
 use Rattle.spans.specs.AmountKind.{amounts}
 use Rattle.spans.specs.declared.amount.Amount.{Amount}
-use Rattle.books.specs.Boards.{spanAt}
 use Rattle.rules.specs.SumRows.{blank}
 use Rattle.rules.specs.Sums.{allSome, indexFrom}
-use Rattle.rules.specs.declared.sums.term.Term.{Term}
 use Rattle.rules.proofs.SumAdding.{place-at}
 use Rattle.rules.proofs.SumIndexes.{empty-here, some-here, index-here}
 use Rattle.rules.proofs.sums.answers.asked_term.Needs as need

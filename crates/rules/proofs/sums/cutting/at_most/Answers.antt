@@ -1,13 +1,12 @@
-use mathlib.Core.Path.{_≡_, sym, ap, ap₂, _∙_}
+use mathlib.Core.Path.{_≡_, ap₂, _∙_}
 use mathlib.Core.Bool.{true, false}
 use native.Mathlib.Omega.{arith}
-use lib.IntN.{ℤ, pos, negℤ, _-ℤ_}
-use lib.Signed.{ltZ, _<ℤ_}
+use lib.IntN.{pos, negℤ, _-ℤ_}
 use mir.Syntax.{w32, w64}
 use mir.Val.{toZ, ofZ}
 use Rattle.std.specs.Numbers.{divEuclid}
 use Rattle.std.proofs.shelf.Signed.{ints}
-use Rattle.rules.proofs.SumProducts.{coefficient-is, below-zero, over-zero, Near}
+use Rattle.rules.proofs.SumProducts.{below-zero, over-zero}
 use Rattle.rules.proofs.SumAdding.{by-sign}
 use Rattle.rules.proofs.SumCutting.{keep-above, keep-below, quotient-near}
 use Rattle.rules.proofs.sums.cutting.at_most.Needs as need

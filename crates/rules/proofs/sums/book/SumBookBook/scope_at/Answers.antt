@@ -1,15 +1,14 @@
-use mathlib.Core.Path.{_≡_, sym, ap, _∙_, subst}
-use mathlib.Core.List.{List, map}
+use mathlib.Core.Path.{sym, ap, _∙_, subst}
+use mathlib.Core.List.{List}
 use Prim.Native.Nat.{ℕ, _<_}
 use native.Mathlib.Omega.{arith}
 use lib.ListN.{length, getD}
-use Rattle.std.proofs.shelf.Lists.{length-map, getD-default}
-use Rattle.spans.specs.AmountKind.{amounts}
+use Rattle.std.proofs.shelf.Lists.{length-map}
 use Rattle.spans.specs.declared.amount.Amount.{Amount}
 use Rattle.books.specs.Meaning.{Rule}
 use Rattle.rules.specs.SumTerms.{placeOf}
 use Rattle.rules.specs.SumRows.{blank, termsOf}
-use Rattle.rules.specs.SumBooks.{placeCount, ruleAt}
+use Rattle.rules.specs.SumBooks.{placeCount}
 use Rattle.rules.specs.declared.sums.term.Term.{Term}
 use Rattle.rules.proofs.SumBooking.{rule-same, rule-other, place-getD, only-place}
 use Rattle.rules.proofs.sums.book.SumBookBook.scope_at.Needs as need
