@@ -20,7 +20,8 @@ use Rattle.spans.proofs.Masking.{bit-none, bit-moved, bit-or}
 use Rattle.spans.proofs.Sizes.{some-least}
 use Rattle.books.proofs.Filters.{one-number}
 use Rattle.spans.specs.declared.choice.Choice.{Choice}
-use Rattle.rules.specs.TokenSets.{maskOf, keeping}
+use Rattle.rules.specs.TokenMasks.{maskOf}
+use Rattle.rules.specs.TokenSets.{keeping}
 use Rattle.rules.specs.ChoiceRules.{admitsOnly}
 
 one-bit : (b : Bool) (n t : ℕ) → bit (cond b (2 ^ n) 0) t ≡ (b && eqb t n)

@@ -41,7 +41,7 @@ is-same : (x : ℤ) → T (sameNumber x x)
 is-same (pos n) = eqb-refl n
 is-same (negsuc n) = eqb-refl n
 
--- a pair that passes is found, and others tests that it passes are passed by some pair
+-- a pair that passes is found, and any other test that it passes is passed by some pair
 some-found : (test : TokenPair → Bool) (pairs : List TokenPair) → T (somePair test pairs) → (pair : TokenPair) × T (test pair) × ((other : TokenPair → Bool) → T (other pair) → T (somePair other pairs))
 some-found test [] h = absurd h
 some-found test (pair ∷ pairs) h = go (either (test pair) (somePair test pairs) h) (some-found test pairs)

@@ -20,7 +20,8 @@ use Rattle.spans.specs.declared.amount.Amount.{Amount}
 use Rattle.spans.specs.declared.choice.Choice.{Choice}
 use Rattle.books.specs.Boards.{Among}
 use Rattle.books.specs.Sweeps.{Outcome, emptied, left, visits, strike, total, walk, sweep, sweeps, settle}
-use Rattle.rules.specs.TokenSets.{maskOf, keeping}
+use Rattle.rules.specs.TokenMasks.{maskOf}
+use Rattle.rules.specs.TokenSets.{keeping}
 use Rattle.rules.specs.Between.{answerFrom}
 use Rattle.rules.specs.Sums.{leastProduct, greatestProduct, low, high, keepAtMost}
 use Rattle.rules.specs.Sums as sums

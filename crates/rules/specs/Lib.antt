@@ -1,6 +1,8 @@
 pub mod Worked
 pub mod ChoiceTests
 pub mod Sides
+pub mod TokenMasks
+pub mod TokenMaskLaws
 pub mod TokenSets
 pub mod Between
 pub mod ChoiceRows
