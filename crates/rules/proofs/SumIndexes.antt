@@ -3,7 +3,7 @@ use mathlib.Core.Path.{_≡_, refl, sym, ap, ap₂, _∙_, subst}
 use mathlib.Core.Logic.{_⊎_, inl, inr}
 use mathlib.Core.Bool.{Bool, true, false, cond, not, _&&_}
 use mathlib.Core.List.{List, [], _∷_, map}
-use Prim.Native.Nat.{ℕ, suc, _+_, _≤_, _<_}
+use Prim.Native.Nat.{ℕ, zero, suc, _+_, _≤_, _<_}
 use native.Mathlib.Omega.{arith}
 use native.Mathlib.Numerals.{add-one}
 use lib.Dec.{T, eqb, leb, ltb→lt, leb→le}
@@ -11,7 +11,7 @@ use lib.IntN.{ℤ}
 use lib.ListN.{length, getD, drop}
 use Rattle.std.specs.declared.option.Option.{Option}
 use Rattle.std.specs.declared.option.Option.the-variants.{Some, None}
-use Rattle.std.proofs.shelf.Lists.{at-drop-more}
+use Rattle.std.proofs.shelf.Lists.{at-drop-more, at-drop-all}
 use Rattle.std.proofs.shelf.Tests.{eq-eqb, ne-eqb, cond-true, cond-false, and-left, and-right, and-from, not-from-true, not-from-false}
 use Rattle.spans.specs.Bools.{both}
 use Rattle.spans.specs.Amounts.{amountSize}
@@ -92,6 +92,50 @@ index-of n p (t ∷ ts) found m = go (among-or-not p (map placeOf ts)) m (λ lat
     }
     go (inr never) (inr later) rest = absurd (never later)
 
+-- a place stands once, so its term is the one that is found
+index-at : (places n p : ℕ) (ts : List Term) (found : Option ℕ) (i : ℕ) → T (areTerms places ts) → i < length ts → getD ts i blank .place ≡ p → indexFrom n p ts found ≡ Some (n + i)
+index-at places n p [] found i g h e = absurd (omega arith)
+index-at places n p (t ∷ ts) found zero g h e =
+    index-not (suc n) p ts (cond (eqb (t .place) p) (Some n) found) (λ m. places-once places (t ∷ ts) g .0 (subst (λ (q : ℕ). Among q (map placeOf ts)) (sym e) m))
+    ∙ cond-true (eqb (t .place) p) (Some n) found (eq-eqb (t .place) p e)
+    ∙ ap Some (none n)
+  where
+    none : (n : ℕ) → n ≡ n + 0
+    none n = omega arith
+index-at places n p (t ∷ ts) found (suc i) g h e =
+    index-at places (suc n) p ts (cond (eqb (t .place) p) (Some n) found) i (both (isTerm places t && _) (areTerms places ts) g .1) (omega arith) e
+    ∙ ap Some (next n i)
+  where
+    next : (n i : ℕ) → suc n + i ≡ n + suc i
+    next n i = omega arith
+
+-- the index that is found, or one past all terms
+abbrev pub indexOr : ℕ → Option ℕ → ℕ
+indexOr n None = n
+indexOr n (Some i) = i
+
+abbrev pub indexIn : List Term → ℕ → ℕ
+indexIn ts p = indexOr (length ts) (indexFrom 0 p ts None)
+
+pub index-there : (places p : ℕ) (ts : List Term) (i : ℕ) → T (areTerms places ts) → i < length ts → getD ts i blank .place ≡ p → i ≡ indexIn ts p
+index-there places p ts i g h e = sym (ap (indexOr (length ts)) (index-at places 0 p ts None i g h e) ∙ plain i)
+  where
+    plain : (i : ℕ) → 0 + i ≡ i
+    plain i = omega arith
+
+pub index-elsewhere : (p : ℕ) (ts : List Term) (i : ℕ) → i < length ts → (getD ts i blank .place ≡ p → ⊥) → i ≡ indexIn ts p → ⊥
+index-elsewhere p ts i h ne e = go (among-or-not p (map placeOf ts))
+  where
+    go : Among p (map placeOf ts) ⊎ (Among p (map placeOf ts) → ⊥) → ⊥
+    go (inl m) =
+        let r = index-of 0 p ts None m in
+        let z : indexIn ts p ≡ 0 + r .at = ap (indexOr (length ts)) (r .found-there) in
+        let y : r .at ≡ i = omega (arith, z, e) in
+        ne (subst (λ (k : ℕ). getD ts k blank .place ≡ p) y (r .place))
+    go (inr d) =
+        let z : indexIn ts p ≡ length ts = ap (indexOr (length ts)) (index-not 0 p ts None d) in
+        omega (arith, z, e, h)
+
 -- ---- empty spans
 
 pub all-some : (places : ℕ) (ts : List Term) (b : List Amount) → ((p : ℕ) → Among p (map placeOf ts) → p < places) → Full amounts places b → allSome ts b ≡ true
@@ -162,3 +206,12 @@ module _ (ts : List Term) (b : List Amount) (p i : ℕ) (h : i < length ts) wher
   index-here found new e =
       at-drop-more (λ (l : List Term). indexFrom i p l found) ts i blank h
       ∙ ap₂ (λ (k : ℕ) (o : Option ℕ). indexFrom k p (drop (i + 1) ts) o) (sym (add-one i)) (sym e)
+
+-- after all terms, what was found is the asked term
+pub index-left : (ts : List Term) (b : List Amount) (p i : ℕ) (found : Option ℕ) → length ts ≤ i
+    → allSome (drop i ts) b ≡ allSome ts b → indexFrom i p (drop i ts) found ≡ indexFrom 0 p ts None
+    → (indexFrom 0 p ts None ≡ found) × (askedIn ts p b ≡ found)
+index-left ts b p i found h some index =
+    let all = sym some ∙ at-drop-all (λ (l : List Term). allSome l b) ts i h in
+    let same = sym index ∙ at-drop-all (λ (l : List Term). indexFrom i p l found) ts i h in
+    (same, cond-true (allSome ts b) (indexFrom 0 p ts None) None all ∙ same)

@@ -12,6 +12,7 @@ pub mod ArcConsistency
 pub mod SumTerms
 pub mod SumRows
 pub mod Sums
+pub mod SumPasses
 pub mod SumBooks
 pub mod SumIntervals
 pub mod SumConsistency

@@ -24,7 +24,7 @@ pub struct ChoiceBook<'t> {
 impl<'t> ChoiceBook<'t> {
     // The book of these rows. It counts at least 1 place and at most 254, and of the rows at most 1,000. A row that was made for
     // boards of another count of places is a rule that changes nothing. A board with no empty span is settled under the book
-    // exactly when it is arc consistent for every other row.
+    // exactly when it is arc consistent for every row that was made for its count of places.
     pub fn new(places: Place, rows: &'t [ChoiceRow]) -> ChoiceBook<'t>
         ensures holds { λ r. ⌜ (r .places ≡ places) × (r .rows ≡ rows .entry) ⌝ }
         ensures arc { λ _. ⌜ Arc-book-law places (now (rows .entry)) ⌝ }

@@ -4,9 +4,13 @@ ghost use Prim.Native.Nat.{_≤_, _<_};
 ghost use lib.Dec.{T};
 ghost use lib.ListN.{length};
 ghost use Rattle.rules.specs.SumTerms.{isCoefficient, areTerms};
-ghost use Rattle.rules.specs.Sums.{leastProduct, greatestProduct, low, high};
+ghost use Rattle.rules.specs.Sums.{leastProduct, greatestProduct, askedIn};
+ghost use Rattle.rules.specs.SumPasses.{passed};
 use crate::sums::term::Term;
+use books::Place;
 use spans::Amount;
+use spans::AmountSpan;
+use spans::Span;
 
 // The least product of the coefficient and a number of the span.
 fn least_product(coefficient: i32, span: Amount) -> i64
@@ -32,32 +36,37 @@ fn greatest_product(coefficient: i32, span: Amount) -> i64
     }
 }
 
-// The least products of all terms but the asked one, added.
-pub(super) fn add_least(terms: &[Term], asked: usize, board: &[Amount]) -> i64
-    requires terms { ⌜ T (areTerms (length (now board)) (now terms)) ⌝ }
-    requires few { ⌜ length (now terms) ≤ 16 ⌝ }
-    ensures { λ r. ⌜ r ≡ low (now (terms .entry)) asked (now (board .entry)) ⌝ }
-{
-    let mut total = 0;
-    for (i, t) in terms.iter().enumerate() {
-        if i != asked {
-            total += least_product(t.coefficient, board[t.place as usize]);
-        }
-    }
-    total
+// What a pass over the terms finds for a place: the index of its term, and what the other terms come to, at the least and at the most.
+#[derive(Clone, Copy)]
+pub(super) struct Others {
+    pub asked: usize,
+    pub low: i64,
+    pub high: i64,
 }
 
-// The greatest products of all terms but the asked one, added.
-pub(super) fn add_greatest(terms: &[Term], asked: usize, board: &[Amount]) -> i64
+// One pass over the terms, for a place. It finds nothing at another place, and nothing where a place of the terms has an empty span.
+pub(super) fn add_others(terms: &[Term], place: Place, board: &[Amount]) -> Option<Others>
     requires terms { ⌜ T (areTerms (length (now board)) (now terms)) ⌝ }
     requires few { ⌜ length (now terms) ≤ 16 ⌝ }
-    ensures { λ r. ⌜ r ≡ high (now (terms .entry)) asked (now (board .entry)) ⌝ }
+    ensures { λ r. ⌜ r ≡ passed (now (terms .entry)) (now (board .entry)) (askedIn (now (terms .entry)) place (now (board .entry))) ⌝ }
 {
-    let mut total = 0;
-    for (k, t) in terms.iter().enumerate() {
-        if k != asked {
-            total += greatest_product(t.coefficient, board[t.place as usize]);
+    let mut found = None;
+    let mut low = 0;
+    let mut high = 0;
+    for (i, t) in terms.iter().enumerate() {
+        let span = board[t.place as usize];
+        if span.is_empty() {
+            return None;
+        }
+        if t.place == place {
+            found = Some(i);
+        } else {
+            low += least_product(t.coefficient, span);
+            high += greatest_product(t.coefficient, span);
         }
     }
-    total
+    match found {
+        Some(asked) => Some(Others { asked, low, high }),
+        None => None,
+    }
 }
