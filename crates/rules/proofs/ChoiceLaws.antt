@@ -22,7 +22,8 @@ use Rattle.rules.specs.ChoiceTests.{areTwoPlaces}
 use Rattle.rules.specs.Between.{between}
 use Rattle.rules.specs.ChoiceRows.{placesOf}
 use Rattle.rules.specs.ChoiceRules.{linkOf}
-use Rattle.rules.specs.ChoiceBooks.{placesIn, rulesIn, ruleOf, choiceBook}
+use Rattle.rules.specs.BookCounts.{placeCount, ruleCount}
+use Rattle.rules.specs.ChoiceBooks.{ruleOf, choiceBook}
 use Rattle.rules.specs.ArcConsistency.{ArcConsistent, Arc-law, Counts, Arc-book-law}
 use Rattle.rules.proofs.Links.{link-sound, arc-consistent}
 use Rattle.rules.proofs.Partners.{row-partnered}
@@ -72,12 +73,12 @@ each-rule P places f g (row ∷ rows) (suc r) = each-rule P places f g rows r
 
 pub book-lawful : (places : ℕ) (rows : List ChoiceRow) → Lawful choices (choiceBook places rows)
 book-lawful places rows =
-    let some : 1 ≤ placesIn places = omega arith in
+    let some : 1 ≤ placeCount places = omega arith in
     record {
       some-place = some;
       few-places = omega arith;
       few-rules = omega arith;
-      each = λ r h. each-rule (Sound choices (placesIn places)) (placesIn places) (rule-sound (placesIn places) some) (nothing-sound (placesIn places) some) rows r;
+      each = λ r h. each-rule (Sound choices (placeCount places)) (placeCount places) (rule-sound (placeCount places) some) (nothing-sound (placeCount places) some) rows r;
     }
 
 -- the rule of a row, by its number
@@ -122,7 +123,7 @@ pub arc-book : (places : ℕ) (rows : List ChoiceRow) → Arc-book-law places ro
 arc-book places rows board f = (λ s row k. arc s row k, λ g. record { full = f; calm = λ r p h l. calm g r p h l })
   where
     n : ℕ
-    n = placesIn places
+    n = placeCount places
 
     full : (row : ChoiceRow) → placesOf row ≡ n → Full choices (placesOf row) board
     full row e = subst (λ (k : ℕ). Full choices k board) (sym e) f
@@ -133,7 +134,7 @@ arc-book places rows board f = (λ s row k. arc s row k, λ g. record { full = f
         let own = own-rule n rows (i .0) row (i .2) (ap placesOf (i .3) ∙ k .1) ∙ ap (λ (x : ChoiceRow). between (linkOf x)) (i .3) in
         arc-law row board (full row (k .1)) .0 (λ p l. sym (ap (λ (r : Rule Choice). r .answer p board) own) ∙ s .calm (i .0) p (omega (arith, i .1, i .2)) (subst (λ (m : ℕ). p < m) (k .1) l))
 
-    calm : ((row : ChoiceRow) → Counts places rows row → ArcConsistent (linkOf row) board) → (r p : ℕ) → r < rulesIn (length rows) → p < n → getD (map (ruleOf n) rows) r (idle choices (0 ∷ [])) .answer p board ≡ spanAt choices board p
+    calm : ((row : ChoiceRow) → Counts places rows row → ArcConsistent (linkOf row) board) → (r p : ℕ) → r < ruleCount (length rows) → p < n → getD (map (ruleOf n) rows) r (idle choices (0 ∷ [])) .answer p board ≡ spanAt choices board p
     calm g r p h l =
         let i = at-index rows r (omega arith) in
         go (i .0) (i .1) (i .2 1000 (omega arith)) (cases-eq (placesOf (i .0)) n)

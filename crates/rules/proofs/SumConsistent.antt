@@ -22,7 +22,8 @@ use Rattle.books.proofs.Filters.{among-or-not}
 use Rattle.rules.specs.SumTerms.{placeOf}
 use Rattle.rules.specs.SumRows.{blank, termsOf}
 use Rattle.rules.specs.Sums.{total, productIn, sumOf, stands, others, leastOn, greatestOn, leastProduct, greatestProduct, low, high, coefficientAt, mayStay}
-use Rattle.rules.specs.SumBooks.{placeCount, ruleCount, ruleAt, sumBook}
+use Rattle.rules.specs.BookCounts.{placeCount, ruleCount}
+use Rattle.rules.specs.SumBooks.{ruleAt, sumBook}
 use Rattle.rules.specs.SumIntervals.{projected}
 use Rattle.rules.specs.SumConsistency.{ruleOf, placeAt, FullFor, Exact-law, Calm, Bounds-consistent, Bounds-law, Inequality, Arc-law, All-consistent, Settled-law}
 use Rattle.rules.specs.declared.sums.term.Relation.{Relation}

@@ -24,7 +24,8 @@ use Rattle.books.proofs.Filters.{Filter, filter-sound, idle-sound, one-number}
 use Rattle.rules.specs.SumTerms.{placeOf, isSum}
 use Rattle.rules.specs.SumRows.{blank, termsOf}
 use Rattle.rules.specs.Sums.{total, productIn, sumOf, stands, others, leastOn, greatestOn, leastProduct, greatestProduct, low, high, coefficientAt, keepAtMost, cut, mayStay, indexFrom, answered, sumRule}
-use Rattle.rules.specs.SumBooks.{placeCount, noRule, rowRule, ruleAt, sumBook}
+use Rattle.rules.specs.BookCounts.{placeCount}
+use Rattle.rules.specs.SumBooks.{noRule, rowRule, ruleAt, sumBook}
 use Rattle.rules.specs.declared.sums.term.Relation.{Relation}
 use Rattle.rules.specs.declared.sums.term.Relation.the-variants.{AtMost, AtLeast, Equal}
 use Rattle.rules.specs.declared.sums.term.Term.{Term}

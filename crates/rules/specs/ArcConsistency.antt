@@ -16,7 +16,8 @@ use Rattle.rules.specs.declared.choices.row.ChoiceRow.{ChoiceRow}
 use Rattle.rules.specs.Between.{Between, between}
 use Rattle.rules.specs.ChoiceRows.{placesOf}
 use Rattle.rules.specs.ChoiceRules.{linkOf}
-use Rattle.rules.specs.ChoiceBooks.{placesIn, choiceBook}
+use Rattle.rules.specs.BookCounts.{placeCount}
+use Rattle.rules.specs.ChoiceBooks.{choiceBook}
 
 -- every admitted token has a partner: a token admitted at the other place such that the two obey the rule
 pub record ArcConsistent (link : Between) (board : List Choice) : Type 0 where
@@ -33,8 +34,8 @@ Arc-law = (row : ChoiceRow) (board : List Choice) → Full choices (placesOf row
 
 -- the row counts in the book: it is one of the first 1,000, and for boards of as many places
 abbrev pub Counts : ℕ → List ChoiceRow → ChoiceRow → Type 0
-Counts places rows row = Among row (take 1000 rows) × (placesOf row ≡ placesIn places)
+Counts places rows row = Among row (take 1000 rows) × (placesOf row ≡ placeCount places)
 
 -- a board with no empty span is settled under the book of these rows exactly when it is arc consistent for each row that counts
 abbrev pub Arc-book-law : ℕ → List ChoiceRow → Type 0
-Arc-book-law places rows = (board : List Choice) → Full choices (placesIn places) board → Settled choices (choiceBook places rows) board ↔ ((row : ChoiceRow) → Counts places rows row → ArcConsistent (linkOf row) board)
+Arc-book-law places rows = (board : List Choice) → Full choices (placeCount places) board → Settled choices (choiceBook places rows) board ↔ ((row : ChoiceRow) → Counts places rows row → ArcConsistent (linkOf row) board)

@@ -13,6 +13,7 @@ pub mod SumTerms
 pub mod SumRows
 pub mod Sums
 pub mod SumPasses
+pub mod BookCounts
 pub mod SumBooks
 pub mod SumIntervals
 pub mod SumConsistency

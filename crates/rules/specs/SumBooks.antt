@@ -1,22 +1,16 @@
 -- Books of sums. Assumes nothing.
 use mathlib.Core.Bool.{cond}
 use mathlib.Core.List.{List, [], _∷_}
-use Prim.Native.Nat.{ℕ, zero, suc, min, max}
+use Prim.Native.Nat.{ℕ, zero, suc}
 use lib.Dec.{eqb}
 use lib.ListN.{length}
 use Rattle.spans.specs.AmountKind.{amounts}
 use Rattle.spans.specs.declared.amount.Amount.{Amount}
 use Rattle.books.specs.Meaning.{Meaning, Rule, idle}
+use Rattle.rules.specs.BookCounts.{placeCount, ruleCount}
 use Rattle.rules.specs.SumRows.{termsOf}
 use Rattle.rules.specs.Sums.{sumRule}
 use Rattle.rules.specs.declared.sums.row.SumRow.{SumRow}
-
--- a book counts 1 to 254 places, and at most 1,000 rules
-abbrev pub placeCount : ℕ → ℕ
-placeCount n = min (max n 1) 254
-
-abbrev pub ruleCount : ℕ → ℕ
-ruleCount n = min n 1000
 
 -- the rule of place 0 that strikes nothing
 abbrev pub noRule : Rule Amount
@@ -26,6 +20,7 @@ noRule = idle amounts (0 ∷ [])
 abbrev pub rowRule : ℕ → SumRow → Rule Amount
 rowRule places row = cond (eqb (row .places) places) (sumRule (row .relation) (row .bound) (termsOf row)) noRule
 
+-- the rule of a number
 abbrev pub ruleAt : ℕ → List SumRow → ℕ → Rule Amount
 ruleAt places [] r = noRule
 ruleAt places (row ∷ rows) zero = rowRule places row

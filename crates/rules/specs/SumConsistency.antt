@@ -17,7 +17,8 @@ use Rattle.books.specs.Settled.{Settled}
 use Rattle.rules.specs.SumTerms.{placeOf}
 use Rattle.rules.specs.SumRows.{blank, termsOf}
 use Rattle.rules.specs.Sums.{leastProduct, greatestProduct, mayStay, sumRule}
-use Rattle.rules.specs.SumBooks.{placeCount, ruleCount, sumBook}
+use Rattle.rules.specs.BookCounts.{placeCount, ruleCount}
+use Rattle.rules.specs.SumBooks.{sumBook}
 use Rattle.rules.specs.SumIntervals.{Rational, whole, NotAbove, roundDown, roundUp, projected}
 use Rattle.rules.specs.declared.sums.term.Relation.{Relation}
 use Rattle.rules.specs.declared.sums.term.Relation.the-variants.{AtMost, AtLeast, Equal}

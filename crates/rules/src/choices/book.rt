@@ -41,7 +41,7 @@ pub impl<'t> Book for ChoiceBook<'t> as ChoiceBookBook {
     fn lawful(&self) {}
 
     fn places(&self) -> Place {
-        self.places.min(MOST_PLACES).max(1)
+        self.places.max(1).min(MOST_PLACES)
     }
 
     fn rules(&self) -> RuleNumber {

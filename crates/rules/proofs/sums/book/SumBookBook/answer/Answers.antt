@@ -6,7 +6,7 @@ use Rattle.std.proofs.shelf.Lists.{getD-default}
 use Rattle.spans.specs.AmountKind.{amounts}
 use Rattle.spans.specs.declared.amount.Amount.{Amount}
 use Rattle.books.specs.Meaning.{Rule}
-use Rattle.rules.specs.SumBooks.{placeCount}
+use Rattle.rules.specs.BookCounts.{placeCount}
 use Rattle.rules.proofs.SumBooking.{rule-same, rule-other}
 use Rattle.rules.proofs.sums.book.SumBookBook.answer.Needs as need
 

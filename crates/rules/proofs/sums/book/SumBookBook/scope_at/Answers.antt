@@ -8,7 +8,7 @@ use Rattle.spans.specs.declared.amount.Amount.{Amount}
 use Rattle.books.specs.Meaning.{Rule}
 use Rattle.rules.specs.SumTerms.{placeOf}
 use Rattle.rules.specs.SumRows.{blank, termsOf}
-use Rattle.rules.specs.SumBooks.{placeCount}
+use Rattle.rules.specs.BookCounts.{placeCount}
 use Rattle.rules.specs.declared.sums.term.Term.{Term}
 use Rattle.rules.proofs.SumBooking.{rule-same, rule-other, place-getD, only-place}
 use Rattle.rules.proofs.sums.book.SumBookBook.scope_at.Needs as need

@@ -7,7 +7,7 @@ use Rattle.spans.specs.declared.amount.Amount.{Amount}
 use Rattle.books.specs.Meaning.{Rule}
 use Rattle.rules.specs.SumTerms.{placeOf}
 use Rattle.rules.specs.SumRows.{termsOf}
-use Rattle.rules.specs.SumBooks.{placeCount}
+use Rattle.rules.specs.BookCounts.{placeCount}
 use Rattle.rules.proofs.SumBooking.{rule-same, rule-other}
 use Rattle.rules.proofs.sums.book.SumBookBook.scope_len.Needs as need
 
