@@ -1,4 +1,6 @@
 // Rule books: what a book of rules is, whatever its rules and whatever the kind of its spans.
+#![tactic(auto)]
+
 ghost use Rattle.std.specs.Prelude.{◌≡◌, ℕ, ◌<◌, ◌≤◌, length, slice_index};
 ghost use Rattle.books.specs.Meaning.{Meaning, Lawful};
 ghost use Rattle.books.specs.Boards.{has};

@@ -108,4 +108,4 @@ module _ {S : Type 0} (kind : Kind S) where
       skims_end z = step ∙ cond-true _ _ _ (eq-eqb s' s z)
 
       pub skims_more : (s' ≡ s → ⊥) → skims kind book (suc m) b w s ≡ skims kind book m b' w' s'
-      skims_more z = step ∙ cond_false _ _ _ (ne_eqb s' s z)
+      skims_more z = step ∙ cond-false _ _ _ (ne_eqb s' s z)

@@ -14,7 +14,7 @@ module _ {S : Type 0} (test : S → Bool) (board : List S) (i : ℕ) where
     lowest_here e = turn ∙ cond-true _ _ _ e
 
     pub lowest_later : test span ≡ false → lowest_with test (drop i board) ≡ suc (lowest_with test (drop (i + 1) board))
-    lowest_later e = turn ∙ cond_false _ _ _ e
+    lowest_later e = turn ∙ cond-false _ _ _ e
 
   pub lowest_end : length board ≤ i → lowest_with test (drop i board) ≡ 0
   unfolding lowest_with

@@ -28,10 +28,10 @@ module _ {S : Type 0} (kind : Kind S) where
       tend_empties e = here ∙ cond-true _ _ _ (eq-eqb (kind.size a) 0 e)
 
       pub tend_strikes : (kind.size a ≡ 0 → ⊥) → kind.size a < kind.size old → tend kind book r (drop i ps) b w s ≡ tend kind book r (drop (i + 1) ps) (set b p a) (woken book p w) (s + 1)
-      tend_strikes n l = here ∙ cond_false _ _ _ (ne_eqb (kind.size a) 0 n) ∙ cond-true _ _ _ (lt-ltb (kind.size a) (kind.size old) l) ∙ ap (tend kind book r (drop (i + 1) ps) (set b p a) (woken book p w)) (sym (add-one s))
+      tend_strikes n l = here ∙ cond-false _ _ _ (ne_eqb (kind.size a) 0 n) ∙ cond-true _ _ _ (lt-ltb (kind.size a) (kind.size old) l) ∙ ap (tend kind book r (drop (i + 1) ps) (set b p a) (woken book p w)) (sym (add-one s))
 
       pub tend_leaves : (kind.size a ≡ 0 → ⊥) → kind.size old ≤ kind.size a → tend kind book r (drop i ps) b w s ≡ tend kind book r (drop (i + 1) ps) b w s
-      tend_leaves n l = here ∙ cond_false _ _ _ (ne_eqb (kind.size a) 0 n) ∙ cond_false _ _ _ (le-ltb (kind.size a) (kind.size old) l)
+      tend_leaves n l = here ∙ cond-false _ _ _ (ne_eqb (kind.size a) 0 n) ∙ cond-false _ _ _ (le-ltb (kind.size a) (kind.size old) l)
 
     pub tend_end : (r : ℕ) (ps : List ℕ) (i : ℕ) (b : List S) (w : List ℕ) (s : ℕ) → i ≡ length ps → tend kind book r (drop i ps) b w s ≡ onward b w s
     unfolding tend
@@ -54,7 +54,7 @@ module _ {S : Type 0} (kind : Kind S) where
 
     pub rule_visited : (r : ℕ) (b : List S) (w : List ℕ) (s : ℕ) → (get_or w r 0 ≡ 0 → ⊥) → tend_rule kind book r b w s ≡ tend kind book r (book.rule r).scope b (set w r 0) s
     unfolding tend_rule
-    rule_visited r b w s n = cond_false _ _ _ (ne_eqb (get_or w r 0) 0 n)
+    rule_visited r b w s n = cond-false _ _ _ (ne_eqb (get_or w r 0) 0 n)
 
     module _ (law : Lawful kind book) where
       -- a place of a rule is a place of the board

@@ -51,7 +51,7 @@ module _ {S : Type 0} (kind : Kind S) (board : List S) where
       where
         go : (t : Bool) → eqb (kind.size span) 0 ≡ t → Some x ≡ cond t None (Some (kind.least span)) → x ≡ cond (eqb (kind.size span) 0) (pos 0) (kind.least span)
         go true h e = let z : ◌≡◌ {A = ℕ} 0 1 = cc in absurd (omega arith)
-        go false h e = let same : x ≡ kind.least span = cc in same ∙ sym (cond_false _ _ _ h)
+        go false h e = let same : x ≡ kind.least span = cc in same ∙ sym (cond-false _ _ _ h)
 
     pub lowest_nothing : None ≡ least_of kind span → pos 0 ≡ lowest kind (span_at kind board place)
     unfolding lowest
@@ -86,4 +86,4 @@ module _ {S : Type 0} (kind : Kind S) (P : Position) (B W K : List S) (L : List 
     checking_several h = sym (decided ∙ cond-true _ _ _ (lt-ltb several P.places h))
 
     pub checking_ready : P.places ≤ several → Ok tt ≡ check_answer kind (at P B W L K) list
-    checking_ready h = sym (decided ∙ cond_false _ _ _ (le-ltb several P.places h))
+    checking_ready h = sym (decided ∙ cond-false _ _ _ (le-ltb several P.places h))

@@ -1,4 +1,6 @@
 // The engine: calls on a position, for every kind of span and every rule book.
+#![tactic(auto)]
+
 mod keep;
 pub mod laws;
 pub mod position;

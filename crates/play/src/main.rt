@@ -1,4 +1,6 @@
 // Reads the rule sheet `game.txt` in the folder that it is run in, and tells what it is made of.
+#![tactic(auto)]
+
 use sheets::{SheetFault, read_outline};
 use std::io::{ErrorKind, Read, Write};
 use std::{fs, io};

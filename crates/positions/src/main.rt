@@ -1,4 +1,6 @@
 // Plays positions through the engine's calls, with amounts and with choices, and prints what each call says.
+#![tactic(auto)]
+
 mod amounts;
 mod choices;
 mod saying;

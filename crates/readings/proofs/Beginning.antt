@@ -27,7 +27,7 @@ sized_small ps sheet read e = go (ltb 65535 (length sheet)) refl e
   where
     go : (t : Bool) → ltb 65535 (length sheet) ≡ t → ◌≡◌ {A = Result (Unit {0}) FieldFault} (Ok tt) (raised (cond {A = Result (Unit {0}) TextFault} t (Err TooBig) (Ok tt))) → sized ps sheet read ≡ read (lines_of sheet)
     go true h e = let z : ◌≡◌ {A = ℕ} 0 1 = cc in absurd (omega arith)
-    go false h e = cond_false _ _ _ h
+    go false h e = cond-false _ _ _ h
 
 -- the title is read, and the lines behind it are read on; or it has a fault
 module _ (asked : SheetKind) (kind : SpanKind) (ps : List Place) (sheet : List ℕ) (next : List Line → Reading) (n : ℕ) (ls : List Line)

@@ -41,7 +41,7 @@ module _ (xs : List ℕ) (n : ℕ) (is : n ≡ length (before 10 xs)) where
   rule_first h t = rules_more h ∙ cond-true _ _ _ (sym (t ∙ ap rule_line_test line_is))
 
   other_first : n < length xs → false ≡ rule_line_test (take (n - 0) xs) → rule_lines_of xs ≡ after
-  other_first h t = rules_more h ∙ cond_false _ _ _ (sym (t ∙ ap rule_line_test line_is))
+  other_first h t = rules_more h ∙ cond-false _ _ _ (sym (t ∙ ap rule_line_test line_is))
 
   -- it is the line sought; or it is passed, and counted if it is a rule's
   pub found_here : n < length xs → true ≡ rule_line_test (take (n - 0) xs) → (k : ℕ) → k ≡ 0 → ◌≡◌ {A = Result (List ℕ) ℕ} (Ok (take (n - 0) xs)) (sought (rule_lines_of xs) k)

@@ -13,7 +13,7 @@ use Rattle.readings.specs.RuleLines.{but_last, ended_lines}
 last_whole : (read : ℕ) (part : List ℕ) (lines : List (List ℕ)) → lines_from (part ∷ []) ≡ map whole lines → lines_in read (part ∷ []) ≡ Ok lines
 last_whole read [] [] e = refl
 last_whole read [] (line ∷ lines) e = let z : ◌≡◌ {A = ℕ} 0 1 = cc in absurd (omega arith)
-last_whole read (b ∷ part) lines e = absurd (go (ltb 1024 (length (b ∷ part))) lines (sym (cond_false _ _ _ (ne_eqb (length (b ∷ part)) 0 (λ n. omega (arith, n)))) ∙ e))
+last_whole read (b ∷ part) lines e = absurd (go (ltb 1024 (length (b ∷ part))) lines (sym (cond-false _ _ _ (ne_eqb (length (b ∷ part)) 0 (λ n. omega (arith, n)))) ∙ e))
   where
     go : (t : Bool) (ls : List (List ℕ)) → cond t long unended ∷ [] ≡ map whole ls → ⊥
     go true [] e = let z : ◌≡◌ {A = ℕ} 0 1 = cc in omega arith
@@ -61,10 +61,10 @@ read_whole read (part ∷ (next ∷ parts)) lines e = go (ltb 1024 (length part)
 
 -- a sheet is some lines, each followed by byte 10, exactly if they are whole; then they are its ended lines
 pub lined_from : (sheet : List ℕ) (lines : List (List ℕ)) → length sheet ≤ 65535 → lines_of sheet ≡ map whole lines → Lined sheet lines
-lined_from sheet lines small e = (lines_law sheet lines).0 (cond_false _ _ _ (le-ltb 65535 (length sheet) small) ∙ whole_read 0 (cut_at 10 sheet) lines e)
+lined_from sheet lines small e = (lines_law sheet lines).0 (cond-false _ _ _ (le-ltb 65535 (length sheet) small) ∙ whole_read 0 (cut_at 10 sheet) lines e)
 
 lined_both : (sheet : List ℕ) (lines : List (List ℕ)) → Lined sheet lines → (lines_of sheet ≡ map whole lines) × (ended_lines sheet ≡ lines)
-lined_both sheet lines l = read_whole 0 (cut_at 10 sheet) lines (sym (cond_false _ _ _ (le-ltb 65535 (length sheet) l.small)) ∙ (lines_law sheet lines).1 l)
+lined_both sheet lines l = read_whole 0 (cut_at 10 sheet) lines (sym (cond-false _ _ _ (le-ltb 65535 (length sheet) l.small)) ∙ (lines_law sheet lines).1 l)
 
 pub lined_to : (sheet : List ℕ) (lines : List (List ℕ)) → Lined sheet lines → lines_of sheet ≡ map whole lines
 lined_to sheet lines l = (lined_both sheet lines l).0

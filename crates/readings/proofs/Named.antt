@@ -76,7 +76,7 @@ position_to kind before (p ∷ ps) n zero e h = cond-true _ _ _ (same_to p.name)
 position_to kind before (p ∷ ps) n (suc k) e h =
     let rest = (and_parts (is_place kind before p) (are_places kind (before ++ (p ∷ [])) ps) e).1 in
     let new = (names_new kind (before ++ (p ∷ [])) ps k rest (omega arith)).1 in
-    cond_false _ _ _ (declares_push before p (name_of ps k) new).1 ∙ position_to kind (before ++ (p ∷ [])) ps (n + 1) k rest (omega arith) ∙ ap Some (omega arith)
+    cond-false _ _ _ (declares_push before p (name_of ps k) new).1 ∙ position_to kind (before ++ (p ∷ [])) ps (n + 1) k rest (omega arith) ∙ ap Some (omega arith)
 
 pub known_to : (kind : SpanKind) (ps : List Place) (at : At) (p : ℕ) → are_places kind [] ps ≡ true → p < length ps → known_place ps at (name_of ps p) ≡ Ok p
 known_to kind ps at p e h =
@@ -112,7 +112,7 @@ module _ (kind : SpanKind) (ps : List Place) (p q : ℕ) (places : are_places ki
   two_to line =
       let s = two_parts in
       then_to (known_place ps (at line 1) (name_of ps p)) _ p _ (known_to kind ps (at line 1) p places s.0)
-      (then_to (known_place ps (at line 2) (name_of ps q)) _ q _ (known_to kind ps (at line 2) q places s.1) (cond_false (eqb p q) _ _ s.2))
+      (then_to (known_place ps (at line 2) (name_of ps q)) _ q _ (known_to kind ps (at line 2) q places s.1) (cond-false (eqb p q) _ _ s.2))
 
   pub two_lack : Lacks 9 (name_of ps p) × Lacks 9 (name_of ps q)
   two_lack =

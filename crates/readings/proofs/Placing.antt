@@ -48,7 +48,7 @@ next_is_none kind places rules (whole cs ∷ ls) n ps e = go (is_place_line (who
   where
     go : (t : Bool) → is_place_line (whole cs) ≡ t → ◌≡◌ {A = Option (List ℕ)} None (cond t (Some cs) None) → NoPlaceLine kind places rules (whole cs ∷ ls) n ps
     go true h e = let z : ◌≡◌ {A = ℕ} 0 1 = cc in absurd (omega arith)
-    go false h e = record { on = cond_false _ _ _ h; left = cond_false _ _ _ h; count = cond_false _ _ _ h }
+    go false h e = record { on = cond-false _ _ _ h; left = cond-false _ _ _ h; count = cond-false _ _ _ h }
 
 -- `count` entries of a table are filled with places, after n lines, and the lines that are left come to what all lines come to
 pub record Held (kind : SpanKind) (room rules : ℕ) (n count : ℕ) (xs old : List Place) (ls : List Line) (all : Reading) : Type 0 where
@@ -86,7 +86,7 @@ module _ {kind : SpanKind} {room rules n count : ℕ} {xs old : List Place} {ls 
   place_refused f e = stop f (ap (λ r. then r (fits room count line)) (sym e))
 
   pub places_full : (p : Place) → Ok p ≡ place_line kind (take count xs) line bytes → room ≤ count → Stopped all (Full line) xs old
-  places_full p e h = stop (Full line) (ap (λ r. then r (fits room count line)) (sym e) ∙ cond_false _ _ _ (le-ltb count room h))
+  places_full p e h = stop (Full line) (ap (λ r. then r (fits room count line)) (sym e) ∙ cond-false _ _ _ (le-ltb count room h))
 
   pub place_added : (m : ℕ) (p : Place) (ys : List Place) → line ≡ m → Ok p ≡ place_line kind (take count xs) line bytes → count < room → take (count + 1) ys ≡ take count xs ++ (p ∷ []) → places_from kind room rules m (take (count + 1) ys) later ≡ all
   place_added m p ys m-is e h s =

@@ -142,7 +142,7 @@ places_to kind places rules n ps [] all rs is after proper proper_rules few_plac
   where
     go : (rs : List Rule) → All (ProperRule kind all) rs → let lines = map whole (map (rule_written all) rs) in Reads (rules_from kind rules all n [] lines) all rs → Reads (places_from kind places rules n all lines) all rs
     go [] h r = r
-    go (rule ∷ rs) h r = subst (λ reading. Reads reading all (rule ∷ rs)) (sym (cond_false _ _ _ (rule_to kind all n rule proper h.0).0)) r
+    go (rule ∷ rs) h r = subst (λ reading. Reads reading all (rule ∷ rs)) (sym (cond-false _ _ _ (rule_to kind all n rule proper h.0).0)) r
 places_to kind places rules n ps (p ∷ more) all rs is after proper proper_rules few_places few_rules =
     let h = and_parts (is_place kind ps p) (are_places kind (ps ++ (p ∷ [])) more) after in
     let line = whole (place_written p) in
@@ -181,7 +181,7 @@ module _ (title : SheetKind) (kind : SpanKind) (ps : List Place) (sheet : List �
   -- the lines behind the title are read on
   sheet_to : (lines : List (List ℕ)) → Lined sheet (title_written title kind ∷ lines) → read_on ≡ next (map whole lines)
   sheet_to lines l =
-      cond_false _ _ (titled title kind ps (lines_of sheet) next) (le-ltb 65535 (length sheet) l.small)
+      cond-false _ _ (titled title kind ps (lines_of sheet) next) (le-ltb 65535 (length sheet) l.small)
       ∙ ap (λ (ls : List Line). titled title kind ps ls next) (lined_to sheet (title_written title kind ∷ lines) l)
       ∙ ap (title_then ps (map whole lines) next) (title_to title kind)
 

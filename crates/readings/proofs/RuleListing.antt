@@ -24,7 +24,7 @@ kept_all test f passes (x ∷ xs) = cond-true _ _ _ (passes x) ∙ ap (λ ys. f 
 
 kept_none : {X Y : Type 0} (test : Y → Bool) (f : X → Y) → ((x : X) → test (f x) ≡ false) → (xs : List X) → filter test (map f xs) ≡ []
 kept_none test f fails [] = refl
-kept_none test f fails (x ∷ xs) = cond_false _ _ _ (fails x) ∙ kept_none test f fails xs
+kept_none test f fails (x ∷ xs) = cond-false _ _ _ (fails x) ∙ kept_none test f fails xs
 
 -- the title and the lines of places are none, by their words
 pub game_rule_lines : (kind : SpanKind) (places rules : ℕ) (sheet : List ℕ) (ps : List Place) (rs : List Rule) → GameOf kind places rules sheet ps rs → rule_lines_of sheet ≡ map (rule_written ps) rs

@@ -187,7 +187,7 @@ place_to kind ps line p e =
       ap (λ (gs : List (List ℕ)). place_record kind ps line (counted kind word.Place gs)) fields
           ∙ ap (place_record kind ps line) (cond-true _ _ _ fits)
           ∙ raised_to (name_at (at line 1) p.name) _ p.name p (name_to (at line 1) p.name s.named)
-          (cond_false (declares ps p.name) _ _ s.new ∙ raised_to (opening_of kind line (opening_written p.opening)) _ p.opening p o.read refl),
+          (cond-false (declares ps p.name) _ _ s.new ∙ raised_to (opening_of kind line (opening_written p.opening)) _ p.opening p o.read refl),
     )
 
 -- a relation is read exactly if it is written out

@@ -110,7 +110,7 @@ module _ {kind : SpanKind} {room : ℕ} {ps : List Place} {n count : ℕ} {xs ol
     rule_refused f e = stop f n (turn (Err f) (ap (λ r. then r (fits room count line)) (sym e)))
 
     pub rules_full : (x : Row) → Ok x ≡ rule_line_of kind ps line bytes → room ≤ count → ToldOf all (Err (Full line)) xs old
-    rules_full x e h = stop (Full line) n (turn (Err (Full line)) (ap (λ r. then r (fits room count line)) (sym e) ∙ cond_false _ _ _ (le-ltb count room h)))
+    rules_full x e h = stop (Full line) n (turn (Err (Full line)) (ap (λ r. then r (fits room count line)) (sym e) ∙ cond-false _ _ _ (le-ltb count room h)))
 
     pub rule_added : (m : ℕ) (x : Row) (ys : List Row) → line ≡ m → Ok x ≡ rule_line_of kind ps line bytes → count < room → take (count + 1) ys ≡ take count xs ++ (x ∷ []) → rules_from kind room ps m (take (count + 1) ys) later ≡ all
     rule_added m x ys is e h s =

@@ -166,7 +166,7 @@ coefficient_to a c e =
     let p = coefficient_parts c e in
     then_to (number_in (negsuc 9_999) (pos 10_000) a (signed_decimal c)) (λ z. cond (is_zero z) (Err (OutOfRange a)) (Ok z)) c c
     (number_to (negsuc 9_999) (pos 10_000) a c (small_within (negsuc 9_999) (pos 10_000) c refl refl p.0) p.0)
-    (cond_false (is_zero c) _ _ p.1)
+    (cond-false (is_zero c) _ _ p.1)
 
 -- a term among terms is one, and its place is not one of those before it
 has_no : (p : ℕ) (ts : List Term) (t : Term) (us : List Term) → has p (map place_of (ts ++ (t ∷ us))) ≡ false → p ≡ t.place → ⊥
@@ -231,7 +231,7 @@ module _ (ps : List Place) where
             let p = and_parts (is_coefficient t.coefficient) (ltb t.place (length ps)) m.0 in (
               raised_to (coefficient_at (at line f) (coefficient_field t)) _ t.coefficient t (coefficient_to (at line f) t.coefficient p.0)
                   (then_to (known_place ps (at line (f + 1)) (place_field t)) _ t.place t (known_to kind ps (at line (f + 1)) t.place places (ltb-true t.place (length ps) p.1))
-                  (cond_false (uses us t.place) _ _ m.1)),
+                  (cond-false (uses us t.place) _ _ m.1)),
               ap (terms_test (length ps)) (append_assoc us (t ∷ []) vs) ∙ e,
             )
 

@@ -32,6 +32,6 @@ walks read left = go (cut_at 10 left) refl (cut_lacks 10 left)
     go ([] ∷ []) e l = record { answer = refl; left = ap lines_from e; count = refl }
     go ((b ∷ line) ∷ []) e l =
         let t = ltb 1024 (length (b ∷ line)) in
-        let some = cond_false (eqb (length (b ∷ line)) 0) [] (cond t long unended ∷ []) (ne_eqb (length (b ∷ line)) 0 (λ z. omega arith)) in
+        let some = cond-false (eqb (length (b ∷ line)) 0) [] (cond t long unended ∷ []) (ne_eqb (length (b ∷ line)) 0 (λ z. omega arith)) in
         subst (λ ls. Walks read ls (step_of read left ((b ∷ line) ∷ []))) (sym some) (last t b line (ap lines_from e ∙ some))
     go (line ∷ (next ∷ parts)) e l = more (ltb 1024 (length line)) line next parts (ap lines_from e) (joined_cut 10 next parts l.1.0 l.1.1)

@@ -1,4 +1,6 @@
 // Whole sheets: the tables that their lines fill, the books and boards over those, and the lines of their rules.
+#![tactic(auto)]
+
 mod calls;
 mod filling;
 pub mod meaning;

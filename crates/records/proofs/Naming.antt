@@ -21,4 +21,4 @@ module _ (rows : List PlaceRow) (name : List ℕ) (i : ℕ) (d : PlaceRow) (h : 
   found e = at_drop_more (λ l. position_after i (map place_shown l) name) rows i d h ∙ cond-true _ _ _ (sym e)
 
   pub passed : false ≡ same_name (place_shown (get_or rows i d)).name name → position_after i (map place_shown (drop i rows)) name ≡ position_after (i + 1) (map place_shown (drop (i + 1) rows)) name
-  passed e = at_drop_more (λ l. position_after i (map place_shown l) name) rows i d h ∙ cond_false _ _ _ (sym e)
+  passed e = at_drop_more (λ l. position_after i (map place_shown l) name) rows i d h ∙ cond-false _ _ _ (sym e)

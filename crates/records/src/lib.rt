@@ -1,5 +1,7 @@
 // The records of rule sheets: one line as a title, a place or a rule, with every check that a line has to pass.
 // Nothing here copies a byte of the sheet: names and fields are parts of it.
+#![tactic(auto)]
+
 pub mod fault;
 pub mod kind;
 pub mod names;

@@ -29,16 +29,16 @@ module _ (link : Between) (p : ℕ) (span one two : Choice) where
 
   pub at_neither : (p ≡ link.first → ⊥) → (p ≡ link.second → ⊥) → span ≡ answer_from link p span one two
   unfolding answer_from
-  at_neither n m = sym (either_way _ _ _ (cond_false _ _ _ (ne_eqb p link.first n) ∙ cond_false _ _ _ (ne_eqb p link.second m)))
+  at_neither n m = sym (either_way _ _ _ (cond-false _ _ _ (ne_eqb p link.first n) ∙ cond-false _ _ _ (ne_eqb p link.second m)))
 
   module _ (some : eqb (choice_size one) 0 ≡ false) (other : eqb (choice_size two) 0 ≡ false) where
     pub at_first : (r : Choice) → r ≡ keeping span (link.stays First two) → p ≡ link.first → r ≡ answer_from link p span one two
     unfolding answer_from
-    at_first r is e = is ∙ sym (cond_false _ _ _ (or_from _ _ some other) ∙ cond-true _ _ _ (eq-eqb p link.first e))
+    at_first r is e = is ∙ sym (cond-false _ _ _ (or_from _ _ some other) ∙ cond-true _ _ _ (eq-eqb p link.first e))
 
     pub at_second : (r : Choice) → r ≡ keeping span (link.stays Second one) → (p ≡ link.first → ⊥) → p ≡ link.second → r ≡ answer_from link p span one two
     unfolding answer_from
-    at_second r is n e = is ∙ sym (cond_false _ _ _ (or_from _ _ some other) ∙ cond_false _ _ _ (ne_eqb p link.first n) ∙ cond-true _ _ _ (eq-eqb p link.second e))
+    at_second r is n e = is ∙ sym (cond-false _ _ _ (or_from _ _ some other) ∙ cond-false _ _ _ (ne_eqb p link.first n) ∙ cond-true _ _ _ (eq-eqb p link.second e))
 
 -- ---- the places of a rule, by their numbers
 

@@ -84,7 +84,7 @@ module _ (places : ℕ) (rows : List ChoiceRow) (r : ℕ) (d : ChoiceRow) (h : r
   own_rule e = rule_at_lem ∙ cond-true _ _ _ (eq-eqb (places_of (get_or rows r d)) places e)
 
   pub no_rule_lem : (places_of (get_or rows r d) ≡ places → ⊥) → get_or (map (rule_of places) rows) r (idle choices (0 ∷ [])) ≡ idle choices (0 ∷ [])
-  no_rule_lem e = rule_at_lem ∙ cond_false _ _ _ (ne_eqb (places_of (get_or rows r d)) places e)
+  no_rule_lem e = rule_at_lem ∙ cond-false _ _ _ (ne_eqb (places_of (get_or rows r d)) places e)
 
 pub arc_law : ArcLaw
 arc_law row board f = let p = row_places row in arc_consistent (places_of row) (link_of row) (row_partnered row) p.differ p.one p.two board f

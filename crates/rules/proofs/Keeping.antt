@@ -105,4 +105,4 @@ one_strikes r span other k e l f t =
 
 -- the least token, where there is one
 pub least_told : (span : Choice) (x : ℤ) → choice_size span ≡ 1 → Some x ≡ least_of choices span → x ≡ choice_least span
-least_told span x e f = let some : Some x ≡ Some (choice_least span) = f ∙ cond_false (eqb (choice_size span) 0) None (Some (choice_least span)) (ne_eqb (choice_size span) 0 (λ z. omega arith)) in cc
+least_told span x e f = let some : Some x ≡ Some (choice_least span) = f ∙ cond-false (eqb (choice_size span) 0) None (Some (choice_least span)) (ne_eqb (choice_size span) 0 (λ z. omega arith)) in cc

@@ -54,7 +54,7 @@ module _ (places : ℕ) (link : Between) (P : Partnered link) (d : link.first �
 
   may_at : (side : Side) (b : List Choice) (t : ℕ) → may link (place_on_side link side) b (pos t) ≡ link.stays side (span_at choices b (place_on_side link (across side))) t
   may_at First b t = cond-true _ _ _ (eq-eqb link.first link.first refl)
-  may_at Second b t = cond_false _ _ _ (ne_eqb link.second link.first (λ e. d (sym e)))
+  may_at Second b t = cond-false _ _ _ (ne_eqb link.second link.first (λ e. d (sym e)))
 
   answer_at : (side : Side) (b : List Choice) → Full choices places b
       → answer_between link (place_on_side link side) b ≡ keeping (span_at choices b (place_on_side link side)) (link.stays side (span_at choices b (place_on_side link (across side))))
@@ -62,17 +62,17 @@ module _ (places : ℕ) (link : Between) (P : Partnered link) (d : link.first �
   answer_at First b f =
       let one = some First b f in
       let two = some Second b f in
-      cond_false _ _ _ (or_from _ _ (ne_eqb (choice_size (span_at choices b link.first)) 0 (λ e. omega arith)) (ne_eqb (choice_size (span_at choices b link.second)) 0 (λ e. omega arith)))
+      cond-false _ _ _ (or_from _ _ (ne_eqb (choice_size (span_at choices b link.first)) 0 (λ e. omega arith)) (ne_eqb (choice_size (span_at choices b link.second)) 0 (λ e. omega arith)))
       ∙ cond-true _ _ _ (eq-eqb link.first link.first refl)
   answer_at Second b f =
       let one = some First b f in
       let two = some Second b f in
-      cond_false _ _ _ (or_from _ _ (ne_eqb (choice_size (span_at choices b link.first)) 0 (λ e. omega arith)) (ne_eqb (choice_size (span_at choices b link.second)) 0 (λ e. omega arith)))
-      ∙ cond_false _ _ _ (ne_eqb link.second link.first (λ e. d (sym e))) ∙ cond-true _ _ _ (eq-eqb link.second link.second refl)
+      cond-false _ _ _ (or_from _ _ (ne_eqb (choice_size (span_at choices b link.first)) 0 (λ e. omega arith)) (ne_eqb (choice_size (span_at choices b link.second)) 0 (λ e. omega arith)))
+      ∙ cond-false _ _ _ (ne_eqb link.second link.first (λ e. d (sym e))) ∙ cond-true _ _ _ (eq-eqb link.second link.second refl)
 
   elsewhere : (p : ℕ) (b : List Choice) → (Among p (between link).scope → ⊥) → answer_between link p b ≡ span_at choices b p
   unfolding answer_from
-  elsewhere p b n = either_way _ _ _ (cond_false _ _ _ (ne_eqb p link.first (λ z. n (inl z))) ∙ cond_false _ _ _ (ne_eqb p link.second (λ z. n (inr (inl z)))))
+  elsewhere p b n = either_way _ _ _ (cond-false _ _ _ (ne_eqb p link.first (λ z. n (inl z))) ∙ cond-false _ _ _ (ne_eqb p link.second (λ z. n (inr (inl z)))))
 
   at_empty : (p q : ℕ) (b : List Choice) → Among q (between link).scope → choice_size (span_at choices b q) ≡ 0 → answer_between link p b ≡ span_at choices b p
   unfolding answer_from

@@ -38,14 +38,14 @@ module _ (of : Term → ℤ) where
   past : (asked n : ℕ) (ts : List Term) → asked < n → total_from asked n ts ≡ total of ts
   unfolding total_from total
   past asked n [] h = refl
-  past asked n (t ∷ ts) h = ap₂ ◌+ℤ◌ (cond_false (eqb n asked) (pos 0) (of t) (ne_eqb n asked (λ e. omega arith))) (past asked (suc n) ts (omega arith))
+  past asked n (t ∷ ts) h = ap₂ ◌+ℤ◌ (cond-false (eqb n asked) (pos 0) (of t) (ne_eqb n asked (λ e. omega arith))) (past asked (suc n) ts (omega arith))
 
   ahead : (i n : ℕ) (ts : List Term) → total_from (n + i) n ts ≡ total of (others i ts)
   unfolding total_from total
   ahead i n [] = refl
   ahead zero n (t ∷ ts) = ap₂ ◌+ℤ◌ (cond-true (eqb n (n + zero)) (pos 0) (of t) (eq-eqb n (n + zero) (omega arith))) (past (n + zero) (suc n) ts (omega arith)) ∙ +ℤ_idl (total of ts)
   ahead (suc i) n (t ∷ ts) =
-      ap₂ ◌+ℤ◌ (cond_false (eqb n (n + suc i)) (pos 0) (of t) (ne_eqb n (n + suc i) (λ e. omega arith)))
+      ap₂ ◌+ℤ◌ (cond-false (eqb n (n + suc i)) (pos 0) (of t) (ne_eqb n (n + suc i) (λ e. omega arith)))
       (ap (λ (k : ℕ). total_from k (suc n) ts) (next n i) ∙ ahead i (suc n) ts)
     where
       next : (n i : ℕ) → n + suc i ≡ suc n + i
@@ -81,7 +81,7 @@ module _ (of : Term → ℤ) where
 
     pub adding_more : (i ≡ asked → ⊥) → (z new : ℤ) → z ≡ of (get_or ts i blank) → Near 10_000_000_000 z → new ≡ sum +ℤ z → Adding asked ts (i + 1) new
     adding_more ne z new e n p = record {
-      left = ap (λ (y : ℤ). y +ℤ total_from asked (i + 1) (drop (i + 1) ts)) p ∙ step z (cond_false (eqb i asked) _ _ (ne_eqb i asked ne) ∙ sym e);
+      left = ap (λ (y : ℤ). y +ℤ total_from asked (i + 1) (drop (i + 1) ts)) p ∙ step z (cond-false (eqb i asked) _ _ (ne_eqb i asked ne) ∙ sym e);
       near = record { low = omega (arith, ints, before.near.low, n.low, p); high = omega (arith, ints, before.near.high, n.high, p) };
     }
 

@@ -18,7 +18,7 @@ module _ (n : ℕ) (rows : List SumRow) (r : ℕ) (d : SumRow) (h : r < length r
   rule_same e = rule_at_lem n rows r d h ∙ cond-true (eqb (get_or rows r d).places n) _ rule_none (eq-eqb (get_or rows r d).places n e)
 
   pub rule_other : ((get_or rows r d).places ≡ n → ⊥) → rule_at n rows r ≡ rule_none
-  rule_other e = rule_at_lem n rows r d h ∙ cond_false (eqb (get_or rows r d).places n) _ rule_none (ne_eqb (get_or rows r d).places n e)
+  rule_other e = rule_at_lem n rows r d h ∙ cond-false (eqb (get_or rows r d).places n) _ rule_none (ne_eqb (get_or rows r d).places n e)
 
 pub place_get : (ts : List Term) (i : ℕ) → get_or (map place_of ts) i 0 ≡ (get_or ts i blank).place
 place_get [] i = refl

@@ -121,7 +121,7 @@ unfolding coefficient_of
 coefficient_is [] d t m = absurd m
 coefficient_is (u ∷ ts) d t (inl e) = cond-true (eqb u.place t.place) _ _ (eq-eqb u.place t.place (sym (ap place_of e))) ∙ sym (ap (λ (v : Term). v.coefficient) e)
 coefficient_is (u ∷ ts) d t (inr m) =
-    cond_false (eqb u.place t.place) _ _ (ne_eqb u.place t.place (λ e. d.0 (subst (λ (p : ℕ). Among p (map place_of ts)) (sym e) (place_among ts t m))))
+    cond-false (eqb u.place t.place) _ _ (ne_eqb u.place t.place (λ e. d.0 (subst (λ (p : ℕ). Among p (map place_of ts)) (sym e) (place_among ts t m))))
     ∙ coefficient_is ts d.1 t m
 
 -- the other terms have other places
@@ -208,7 +208,7 @@ module _ (places : ℕ) (ts : List Term) (once : Distinct (map place_of ts)) (co
       let n = other_among i ts t m in
       ap (λ (z : ℤ). t.coefficient *ℤ z)
       (chosen t.place (counted t.place (place_among ts t n))
-      ∙ cond_false (eqb t.place p) x _ (ne_eqb t.place p (other_places i ts once within t m))
+      ∙ cond-false (eqb t.place p) x _ (ne_eqb t.place p (other_places i ts once within t m))
       ∙ ap (λ (z : ℤ). end z (span_at amounts b t.place)) (coefficient_is ts once t n))))
 
 module _ (row : SumRow) (b : List Amount) (full : FullFor row b) (i : ℕ) (within : i < length (terms_of row)) (x : ℤ) (admitted : T (amount_admits (span_at amounts b (place_of_term row i)) x)) where

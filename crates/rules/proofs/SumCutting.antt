@@ -113,4 +113,4 @@ keep_above a r q s e f = ap (λ (z : ℤ). amount_from s.floor (int_min z s.ceil
 
 pub keep_below : (a r q : ℤ) (s : Amount) → lt_z (pos 0) a ≡ false → q ≡ neg_ℤ (int_div_euclid r (neg_ℤ a)) → amount_from (int_max q s.floor) s.ceiling ≡ keep_at_most a r s
 unfolding keep_at_most
-keep_below a r q s e f = ap (λ (z : ℤ). amount_from (int_max z s.floor) s.ceiling) f ∙ sym (cond_false (lt_z (pos 0) a) _ _ e)
+keep_below a r q s e f = ap (λ (z : ℤ). amount_from (int_max z s.floor) s.ceiling) f ∙ sym (cond-false (lt_z (pos 0) a) _ _ e)

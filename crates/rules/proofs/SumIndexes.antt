@@ -51,7 +51,7 @@ pub index_not : (n p : ℕ) (ts : List Term) (found : Option ℕ) → (Among p (
 index_not n p [] found d = refl
 index_not n p (t ∷ ts) found d =
     index_not (suc n) p ts (cond (eqb t.place p) (Some n) found) (λ m. d (inr m))
-    ∙ cond_false (eqb t.place p) (Some n) found (ne_eqb t.place p (λ e. d (inl (sym e))))
+    ∙ cond-false (eqb t.place p) (Some n) found (ne_eqb t.place p (λ e. d (inl (sym e))))
 
 pub record Index (ts : List Term) (n p : ℕ) (found : Option ℕ) : Type 0 where
   pub at : ℕ
@@ -156,7 +156,7 @@ asked_elsewhere ts b p d = go (all_some ts b)
     go false = refl
 
 pub asked_empty : (ts : List Term) (b : List Amount) (p q : ℕ) → Among q (map place_of ts) → amount_size (span_at amounts b q) ≡ 0 → asked_in ts p b ≡ None
-asked_empty ts b p q m e = cond_false (all_some ts b) _ None (some_empty ts b q m e)
+asked_empty ts b p q m e = cond-false (all_some ts b) _ None (some_empty ts b q m e)
 
 -- an asked term is one of the terms
 pub asked_within : (ts : List Term) (b : List Amount) (p i : ℕ) → asked_in ts p b ≡ Some i → i < length ts
@@ -170,7 +170,7 @@ asked_within ts b p i e = go (among_or_not p (map place_of ts)) (all_some ts b) 
       where
         never : None ≡ Some i → i < length ts
         never z = let y : ◌≡◌ {A = ℕ} 0 1 = cc in absurd (omega arith)
-    go (inl m) false q = never (sym (cond_false (all_some ts b) _ None q) ∙ e)
+    go (inl m) false q = never (sym (cond-false (all_some ts b) _ None q) ∙ e)
       where
         never : None ≡ Some i → i < length ts
         never z = let y : ◌≡◌ {A = ℕ} 0 1 = cc in absurd (omega arith)

@@ -1,4 +1,6 @@
 // The rules of the games: rows that hold them, and books made of rows.
+#![tactic(auto)]
+
 pub mod choices;
 pub mod sums;
 pub mod worked;

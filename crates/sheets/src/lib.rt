@@ -1,4 +1,6 @@
 // The sheet layer above the text: what the lines of a rule sheet have to be.
+#![tactic(auto)]
+
 pub mod fault;
 pub mod outline;
 #[cfg(test)]

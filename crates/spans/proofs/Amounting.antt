@@ -16,7 +16,7 @@ pub asked_made : (r : Amount) (f c : ℤ) → bounded f c ≡ true → r.floor �
 asked_made r f c e p q = ap (λ (a : Amount). Ok a) (from_made r f c e p q) ∙ sym (cond-true (bounded f c) (Ok (amount_from f c)) (Err AmountBounds) e)
 
 pub from_empty : (r : Amount) (f c : ℤ) → bounded f c ≡ false → r ≡ no_amount → r ≡ amount_from f c
-from_empty r f c e p = p ∙ same_bounds no_amount (amount_from f c) (sym (cond_false (bounded f c) f (pos 1) e)) (sym (cond_false (bounded f c) c (pos 0) e))
+from_empty r f c e p = p ∙ same_bounds no_amount (amount_from f c) (sym (cond-false (bounded f c) f (pos 1) e)) (sym (cond-false (bounded f c) c (pos 0) e))
 
 natural : (z : ℤ) → pos 0 ≤ℤ z → (n : ℕ) × (z ≡ pos n)
 natural (pos n) h = (n, refl)

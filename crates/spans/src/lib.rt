@@ -1,4 +1,6 @@
 // Spans: sets of numbers. A number is a whole number from -1,000,000 to 1,000,000.
+#![tactic(auto)]
+
 ghost use Rattle.std.specs.Prelude.{◌≡◌, ◌≤◌, ◌≢◌, Decides, MatchBool, ◌==◌, nat_lt};
 ghost use Rattle.spans.specs.Kind.{Kind, least_of, Empty, Single, Within};
 

@@ -132,7 +132,7 @@ lines_parts read (line ∷ parts) lines some e = go (ltb 1024 (length line)) ref
 -- and parts that end so have no fault
 parts_lines : (read : ℕ) (lines : List (List ℕ)) → All FitsALine lines → lines_in read (lines ++ ([] ∷ [])) ≡ Ok lines
 parts_lines read [] h = refl
-parts_lines read (line ∷ lines) h = cond_false _ _ _ (le-ltb 1024 (length line) h.0) ∙ go lines ∙ ap (infront line) (parts_lines (read + 1) lines h.1)
+parts_lines read (line ∷ lines) h = cond-false _ _ _ (le-ltb 1024 (length line) h.0) ∙ go lines ∙ ap (infront line) (parts_lines (read + 1) lines h.1)
   where
     go : (ls : List (List ℕ)) → line_then read line (ls ++ ([] ∷ [])) (lines_in (read + 1) (ls ++ ([] ∷ []))) ≡ infront line (lines_in (read + 1) (ls ++ ([] ∷ [])))
     go [] = refl
@@ -181,8 +181,8 @@ lines_law sheet lines = (to, from)
     from l =
         let parted : Parted 10 sheet (lines ++ ([] ∷ [])) = record { some = not_empty lines; lack = lacks_ended lines l.plain; join = joined_ended lines ∙ l.join } in
         let e = (parts_law 10 sheet (lines ++ ([] ∷ []))).0 parted in
-        cond_false _ _ _ (le-ltb 65535 (length sheet) l.small) ∙ ap (lines_in 0) (sym e) ∙ parts_lines 0 lines l.short
+        cond-false _ _ _ (le-ltb 65535 (length sheet) l.small) ∙ ap (lines_in 0) (sym e) ∙ parts_lines 0 lines l.short
 
 -- the lines of a sheet that is not too big
 pub sheet_small : (sheet : List ℕ) → length sheet ≤ 65535 → counted (sheet_lines sheet) ≡ total 0 (lines_in 0 (cut_at 10 sheet))
-sheet_small sheet h = ap counted (cond_false _ _ _ (le-ltb 65535 (length sheet) h)) ∙ sym (total_none (lines_in 0 (cut_at 10 sheet)))
+sheet_small sheet h = ap counted (cond-false _ _ _ (le-ltb 65535 (length sheet) h)) ∙ sym (total_none (lines_in 0 (cut_at 10 sheet)))

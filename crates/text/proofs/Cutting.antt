@@ -8,7 +8,7 @@ use Rattle.text.specs.Parts.{before, grown, cut_at, led, joined_by, Lacks, Parte
 -- one turn of the search for a mark
 module _ (mark : ℕ) (xs : List ℕ) (i : ℕ) (h : i < length xs) where
   pub before_more : (get_or xs i 0 ≡ mark → ⊥) → length (before mark (drop i xs)) ≡ suc (length (before mark (drop (i + 1) xs)))
-  before_more ne = ap length (at_drop_more (before mark) xs i 0 h ∙ cond_false _ _ _ (ne_eqb _ mark ne))
+  before_more ne = ap length (at_drop_more (before mark) xs i 0 h ∙ cond-false _ _ _ (ne_eqb _ mark ne))
 
   pub before_stops : get_or xs i 0 ≡ mark → length (before mark (drop i xs)) ≡ 0
   before_stops e = ap length (at_drop_more (before mark) xs i 0 h ∙ cond-true _ _ _ (eq-eqb _ mark e))
@@ -85,7 +85,7 @@ cut_lacks mark (b ∷ bs) = go (eqb b mark) refl (cut_lacks mark bs)
 pub joined_cut : (mark : ℕ) (p : List ℕ) (ps : List (List ℕ)) → Lacks mark p → All (Lacks mark) ps → cut_at mark (joined_by mark (p ∷ ps)) ≡ p ∷ ps
 joined_cut mark [] [] l ls = refl
 joined_cut mark [] (q ∷ qs) l ls = cond-true _ _ _ (eq-eqb mark mark refl) ∙ ap (λ (xs : List (List ℕ)). [] ∷ xs) (joined_cut mark q qs ls.0 ls.1)
-joined_cut mark (b ∷ p) ps l ls = cond_false _ _ _ (ne_eqb b mark l.0) ∙ ap (grown b) (joined_cut mark p ps l.1 ls)
+joined_cut mark (b ∷ p) ps l ls = cond-false _ _ _ (ne_eqb b mark l.0) ∙ ap (grown b) (joined_cut mark p ps l.1 ls)
 
 pub parts_law : (mark : ℕ) (bytes : List ℕ) → PartsLaw mark bytes
 parts_law mark bytes parts = (to, from)

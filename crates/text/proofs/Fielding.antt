@@ -32,4 +32,4 @@ module _ (line : List ℕ) (i : ℕ) (h : i < length line) where
   count_tab e = ap length (at_drop_more (cut_at 9) line i 0 h ∙ cond-true _ _ _ (eq-eqb _ 9 e))
 
   pub count_other : (get_or line i 0 ≡ 9 → ⊥) → length (fields_of (drop i line)) ≡ length (fields_of (drop (i + 1) line))
-  count_other ne = ap length (at_drop_more (cut_at 9) line i 0 h ∙ cond_false _ _ _ (ne_eqb _ 9 ne)) ∙ length_grown (get_or line i 0) (drop (i + 1) line)
+  count_other ne = ap length (at_drop_more (cut_at 9) line i 0 h ∙ cond-false _ _ _ (ne_eqb _ 9 ne)) ∙ length_grown (get_or line i 0) (drop (i + 1) line)

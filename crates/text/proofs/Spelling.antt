@@ -48,7 +48,7 @@ value_first d n ds e =
     ap (λ (m : ℕ). value_after m ds) p.1 ∙ ap (λ (t : Bool). cond (t && all_digits ds) (Some ((d - 48) * 10 ^ length ds + decimal_value ds)) None) (sym p.0)
 
 pub value_none : (d : ℕ) (ds : List ℕ) → digit_of d ≡ None → None ≡ digits_value (d ∷ ds)
-value_none d ds e = sym (cond_false _ _ _ (and_left (is_digit d) (all_digits ds) (digit_none d e)))
+value_none d ds e = sym (cond-false _ _ _ (and_left (is_digit d) (all_digits ds) (digit_none d e)))
 
 module _ (xs : List ℕ) (i : ℕ) (h : i < length xs) (n : ℕ) where
   turn : value_after n (drop i xs) ≡ value_after n (get_or xs i 0 ∷ drop (i + 1) xs)
@@ -66,7 +66,7 @@ module _ (xs : List ℕ) (i : ℕ) (h : i < length xs) (n : ℕ) where
 
   -- a byte that is no digit
   pub value_stops : digit_of (get_or xs i 0) ≡ None → value_after n (drop i xs) ≡ None
-  value_stops e = turn ∙ cond_false _ _ _ (and_left (is_digit (get_or xs i 0)) (all_digits (drop (i + 1) xs)) (digit_none (get_or xs i 0) e))
+  value_stops e = turn ∙ cond-false _ _ _ (and_left (is_digit (get_or xs i 0)) (all_digits (drop (i + 1) xs)) (digit_none (get_or xs i 0) e))
 
 pub value_end : (n : ℕ) → value_after n [] ≡ Some n
 value_end n = ap Some (omega arith)
@@ -91,7 +91,7 @@ pub by_minus : (xs : List ℕ) → 0 < length xs → get_or xs 0 0 ≡ 45 → nu
 by_minus xs h e = ap number_of (first_rest xs 0 h) ∙ cond-true _ _ _ (eq-eqb (get_or xs 0 0) 45 e)
 
 pub by_digits : (xs : List ℕ) → 0 < length xs → (get_or xs 0 0 ≡ 45 → ⊥) → number_of xs ≡ positive_of (get_or xs 0 0 ∷ between 1 (length xs) xs)
-by_digits xs h ne = ap number_of (first_rest xs 0 h) ∙ cond_false _ _ _ (ne_eqb (get_or xs 0 0) 45 ne)
+by_digits xs h ne = ap number_of (first_rest xs 0 h) ∙ cond-false _ _ _ (ne_eqb (get_or xs 0 0) 45 ne)
 
 -- the digits of an unsigned number are those that printing it writes
 abbrev pub Prints : List ℕ → ℕ → Type 0

@@ -36,10 +36,10 @@ module _ (read : ℕ) (bs : List ℕ) where
     too_long h = ⊎_elim (λ l. sym (found l ∙ cond-true _ _ _ (lt-ltb 1024 n h))) (λ l. sym (whole l (λ z. omega (arith, before_le 10 bs)) ∙ cond-true _ _ _ (lt-ltb 1024 (length bs) (omega (arith, before_le 10 bs))))) (cases_lt n (length bs))
 
     unended : n ≤ 1024 → length bs ≤ n → (length bs ≡ 0 → ⊥) → stay (Err (Unended (read + 1))) read bs ≡ line_next read bs
-    unended h l some = sym (whole l some ∙ cond_false _ _ _ (le-ltb 1024 (length bs) (omega arith)))
+    unended h l some = sym (whole l some ∙ cond-false _ _ _ (le-ltb 1024 (length bs) (omega arith)))
 
     ended : n ≤ 1024 → n < length bs → record { answer = Ok (Some (take n bs)); left = drop (n + 1) bs; read = read + 1 } ≡ line_next read bs
-    ended h l = sym (found l ∙ cond_false _ _ _ (le-ltb 1024 n h))
+    ended h l = sym (found l ∙ cond-false _ _ _ (le-ltb 1024 n h))
 
 -- the same of what the code holds: `&sheet[offset..]` for what is left, and the offset moved on
 module _ (read : ℕ) (sheet : List ℕ) (offset : ℕ) where

@@ -1,5 +1,7 @@
 // The lowest layer of a rule sheet: its bytes as lines, a line as fields, a field as a number or a name.
 // Nothing here copies a byte of the sheet: lines, fields and names are parts of it.
+#![tactic(auto)]
+
 pub mod fault;
 pub mod fields;
 pub mod lines;

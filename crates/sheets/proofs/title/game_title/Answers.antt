@@ -6,7 +6,7 @@ pub returns-then-is-word : goal.returns-then-is-word
 returns-then-is-word c = sym (cond-true _ _ _ (sym c.if-is-word.ensures))
 
 pub returns-then-is-word-2 : goal.returns-then-is-word-2
-returns-then-is-word-2 c = sym (cond_false _ _ _ (sym c.if-is-word.ensures) ∙ cond-true _ _ _ (sym c.if-is-word-2.ensures))
+returns-then-is-word-2 c = sym (cond-false _ _ _ (sym c.if-is-word.ensures) ∙ cond-true _ _ _ (sym c.if-is-word-2.ensures))
 
 pub returns : goal.returns
-returns c = sym (cond_false _ _ _ (sym c.if-is-word.ensures) ∙ cond_false _ _ _ (sym c.if-is-word-2.ensures))
+returns c = sym (cond-false _ _ _ (sym c.if-is-word.ensures) ∙ cond-false _ _ _ (sym c.if-is-word-2.ensures))

@@ -27,7 +27,7 @@ returns-then-is-empty c =
     let p = (get_or ts i blank).place in
     let s = c.index-board-t.is ∙ get_or_default b p c.index-board-t.result amounts.none (place_at (length b) ts i h c.requires.terms) in
     let z = ap amount_size (sym s) ∙ eqb-true (amount_size c.index-board-t.result) 0 (sym c.is-empty.ensures.count ∙ c.if-is-empty.true) in
-    ap (passed ts b) (sym (cond_false (all_some ts b) (index_from 0 c.args.place ts None) None (sym c.loop-i.invariant.0 ∙ empty_here ts b c.args.place i h z)))
+    ap (passed ts b) (sym (cond-false (all_some ts b) (index_from 0 c.args.place ts None) None (sym c.loop-i.invariant.0 ∙ empty_here ts b c.args.place i h z)))
 
 pub loop-i-init : goal.loop-i-init
 loop-i-init c =
@@ -103,7 +103,7 @@ loop-i-preserved c =
           ))
       | else-t-place w ↦
           (let away = index_elsewhere c.args.place ts i h w.if-t-place.false in
-          let found = w.found-is ∙ sym (cond_false (eqb p c.args.place) (Some i) c.loop-i.found (ne_eqb p c.args.place w.if-t-place.false)) in
+          let found = w.found-is ∙ sym (cond-false (eqb p c.args.place) (Some i) c.loop-i.found (ne_eqb p c.args.place w.if-t-place.false)) in
           let x = w.least-product-low.result in
           let y = w.greatest-product-high.result in
           let x-is = product_on b t k inside least_product_of c.index-board-t.result x c.index-board-t.is w.least-product-low.ensures in

@@ -16,4 +16,4 @@ unfolding least_product_of
 returns-else-coefficient-gt0 c =
     let a = c.args.coefficient in
     product_back a c.ceiling.result c.ranges.coefficient (record { sfits = c.ceiling.type-inv }) ∙ ap (λ (z : ℤ). a *ℤ z) c.ceiling.ensures
-    ∙ sym (cond_false _ _ _ (by_sign a false c.ranges.coefficient c.if-coefficient-gt0.false))
+    ∙ sym (cond-false _ _ _ (by_sign a false c.ranges.coefficient c.if-coefficient-gt0.false))

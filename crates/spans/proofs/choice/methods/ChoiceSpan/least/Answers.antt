@@ -20,4 +20,4 @@ returns c =
     let z = count_trailing_zeros tokens a.mask in
     let few : z < 2 ^ 31 = omega (arith, trailing_le tokens a.mask) in
     ap (λ (x : ℤ). Some x) (to_z_pos w32 z few)
-    ∙ sym (cond_false (eqb (ones a.mask) 0) None (Some (choice_least a)) (ne_eqb (ones a.mask) 0 (λ e. c.if-self-eq0.false (no_ones tokens a.mask (mask_below a) e))))
+    ∙ sym (cond-false (eqb (ones a.mask) 0) None (Some (choice_least a)) (ne_eqb (ones a.mask) 0 (λ e. c.if-self-eq0.false (no_ones tokens a.mask (mask_below a) e))))
