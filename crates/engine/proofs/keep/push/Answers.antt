@@ -8,4 +8,4 @@ returns g c =
     let n = c.args.size in
     let same : at + n - at ≡ n = omega arith in
     let whole : n - 0 ≡ n = omega arith in
-    ap₂ (λ x y. take at c.args.stack.now ++ (x ++ y)) (c.copy-from-slice.ensures.after ∙ ap (λ k. take k c.args.board.now) whole) (ap (λ k. drop k (drop at c.args.stack.now)) same ∙ drop-drop n at c.args.stack.now)
+    ap₂ (λ x y. take at c.args.stack.now ++ (x ++ y)) (c.copy_from_slice.ensures.after ∙ ap (λ k. take k c.args.board.now) whole) (ap (λ k. drop k (drop at c.args.stack.now)) same ∙ drop-drop n at c.args.stack.now)

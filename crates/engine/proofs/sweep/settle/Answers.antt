@@ -64,16 +64,16 @@ all-wait : {S : Type 0} (kind : Kind S) (book : Meaning S) (b : List S) (w w' : 
 unfolding skimmed
 all-wait kind book b w w' rules e f = ap (λ (v : List ℕ). skims kind book (suc (total kind b)) b v 0) (f ∙ ap (λ (n : ℕ). filled n 1 w) e)
 
-pub returns-in-err-after : goal.returns-in-err-after
-returns-in-err-after g c =
+pub returns-in_err-after : goal.returns-in_err-after
+returns-in_err-after g c =
     let kind = g.Span.Span.kind in
     let book = g.B.Book.meaning c.args.book.now in
     let l = c.loop-after in
-    let by = c.in-err-after.field-0.0 in
-    let p = err_from_is_err_and c.from-residual.result c.from-residual.ensures.1 in
+    let by = c.in_err-after.field-0.0 in
+    let p = err_from_is_err_and c.from_residual.result c.from_residual.ensures.1 in
     let whole = all-wait kind book c.args.board.now c.args.waiting.now c.fill.new.waiting c.rules.result c.rules.ensures c.fill.ensures in
     ap (λ r. skim_told r c.sweep.new.board c.sweep.new.waiting) (p.1 ∙ ap Err p.2)
-    ∙ sym (l.invariant.3 ∙ stop kind book c.lawful.ensures _ _ l.invariant.0 l.board l.waiting l.strikes l.invariant.1 l.invariant.2 by.place by.rule (sym c.in-err-after.ensures)) ∙ whole
+    ∙ sym (l.invariant.3 ∙ stop kind book c.lawful.ensures _ _ l.invariant.0 l.board l.waiting l.strikes l.invariant.1 l.invariant.2 by.place by.rule (sym c.in_err-after.ensures)) ∙ whole
 
 pub returns-then-after-strikes : goal.returns-then-after-strikes
 returns-then-after-strikes g c =
@@ -82,18 +82,18 @@ returns-then-after-strikes g c =
     let l = c.loop-after in
     let whole = all-wait kind book c.args.board.now c.args.waiting.now c.fill.new.waiting c.rules.result c.rules.ensures c.fill.ensures in
     ap (onward c.sweep.new.board c.sweep.new.waiting) (sym c.if-after-strikes.true)
-    ∙ sym (l.invariant.3 ∙ end kind book c.lawful.ensures _ _ l.invariant.0 l.board l.waiting l.strikes l.invariant.1 l.invariant.2 c.sweep.new.board c.sweep.new.waiting c.in-ok-after.after (sym c.in-ok-after.ensures) c.if-after-strikes.true) ∙ whole
+    ∙ sym (l.invariant.3 ∙ end kind book c.lawful.ensures _ _ l.invariant.0 l.board l.waiting l.strikes l.invariant.1 l.invariant.2 c.sweep.new.board c.sweep.new.waiting c.in_ok-after.after (sym c.in_ok-after.ensures) c.if-after-strikes.true) ∙ whole
 
 pub loop-after-smaller : goal.loop-after-smaller
 loop-after-smaller g c =
     let l = c.loop-after in
-    falls g.Span.Span.kind (g.B.Book.meaning c.args.book.now) c.lawful.ensures _ _ l.invariant.0 l.board l.waiting l.strikes l.invariant.1 l.invariant.2 c.sweep.new.board c.sweep.new.waiting c.in-ok-after.after (sym c.in-ok-after.ensures) c.if-after-strikes.false
+    falls g.Span.Span.kind (g.B.Book.meaning c.args.book.now) c.lawful.ensures _ _ l.invariant.0 l.board l.waiting l.strikes l.invariant.1 l.invariant.2 c.sweep.new.board c.sweep.new.waiting c.in_ok-after.after (sym c.in_ok-after.ensures) c.if-after-strikes.false
 
 pub loop-after-preserved : goal.loop-after-preserved
 loop-after-preserved g c =
     let kind = g.Span.Span.kind in
     let book = g.B.Book.meaning c.args.book.now in
     let l = c.loop-after in
-    let e = sym c.in-ok-after.ensures in
-    let next = more kind book c.lawful.ensures _ _ l.invariant.0 l.board l.waiting l.strikes l.invariant.1 l.invariant.2 c.sweep.new.board c.sweep.new.waiting c.in-ok-after.after e c.if-after-strikes.false in
-    (next.0, next.1, after kind book c.lawful.ensures _ _ l.invariant.0 l.board l.waiting l.strikes l.invariant.1 l.invariant.2 c.sweep.new.board c.sweep.new.waiting c.in-ok-after.after e, l.invariant.3 ∙ next.2)
+    let e = sym c.in_ok-after.ensures in
+    let next = more kind book c.lawful.ensures _ _ l.invariant.0 l.board l.waiting l.strikes l.invariant.1 l.invariant.2 c.sweep.new.board c.sweep.new.waiting c.in_ok-after.after e c.if-after-strikes.false in
+    (next.0, next.1, after kind book c.lawful.ensures _ _ l.invariant.0 l.board l.waiting l.strikes l.invariant.1 l.invariant.2 c.sweep.new.board c.sweep.new.waiting c.in_ok-after.after e, l.invariant.3 ∙ next.2)

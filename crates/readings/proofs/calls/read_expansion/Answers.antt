@@ -9,10 +9,10 @@ use Rattle.readings.proofs.SheetLaws.{expansion_law}
 use Rattle.readings.proofs.Showing.{both_parts, first_length, same_added, count_fits}
 use Rattle.readings.proofs.calls.read_expansion.Given.{Over}
 use Rattle.readings.proofs.calls.read_expansion.Goals as goal
-use Rattle.readings.proofs.calls.read_expansion.Goals.{After-fill-expansion, In-Ok}
+use Rattle.readings.proofs.calls.read_expansion.Goals.{After-fill_expansion, In-Ok}
 
 -- what is told of the rules, by the names of the game's places
-module _ (g : Over) (c : After-fill-expansion g) where
+module _ (g : Over) (c : After-fill_expansion g) where
   abbrev names : List Place
   names = take 254 (map place_shown c.args.game.now.places.now)
 
@@ -22,13 +22,13 @@ module _ (g : Over) (c : After-fill-expansion g) where
   told-as : {answer : Result ℕ SheetFault} → answer ≡ answered (length (read (named c.new-names.result)).rules) (read (named c.new-names.result)).fault → answer ≡ answered (length (read names).rules) (read names).fault
   told-as e = e ∙ ap (λ ps. answered (length (read ps).rules) (read ps).fault) c.new-names.ensures
 
-  rules-as : map g.R.RuleRow.holds c.fill-expansion.new.rules ≡ laid (read names).rules (map g.R.RuleRow.holds c.args.rules.now)
-  rules-as = c.fill-expansion.ensures.rules ∙ ap (λ ps. laid (read ps).rules (map g.R.RuleRow.holds c.args.rules.now)) c.new-names.ensures
+  rules-as : map g.R.RuleRow.holds c.fill_expansion.new.rules ≡ laid (read names).rules (map g.R.RuleRow.holds c.args.rules.now)
+  rules-as = c.fill_expansion.ensures.rules ∙ ap (λ ps. laid (read ps).rules (map g.R.RuleRow.holds c.args.rules.now)) c.new-names.ensures
 
 -- the rules that are filled lie in the table
-fits-at : (g : Over) (c : In-Ok g) → c.in-Ok.count ≤ length c.fill-expansion.new.rules
+fits-at : (g : Over) (c : In-Ok g) → c.in-Ok.count ≤ length c.fill_expansion.new.rules
 fits-at g c =
-    let r : length c.fill-expansion.new.rules ≡ length c.args.rules.now = search rules in
+    let r : length c.fill_expansion.new.rules ≡ length c.args.rules.now = search rules in
     let f = count_fits (expansion_read g.R.RuleRow.sheets (named c.new-names.result) (length c.args.rules.now) c.args.sheet.now) c.in-Ok.count _ _ c.in-Ok.ensures.told c.in-Ok.ensures.rules (simp length-map r) in
     simp length-map at f
 
@@ -38,7 +38,7 @@ extended-requires g c = fits-at g (goal.at.extended-requires g c).In-Ok
 pub returns-in-Ok : goal.returns-in-Ok
 returns-in-Ok g c =
     let at = goal.at.returns-in-Ok g c in
-    let d = at.After-fill-expansion in
+    let d = at.After-fill_expansion in
     let e = c.extended.ensures in
     record {
       read = same_added
@@ -50,5 +50,5 @@ returns-in-Ok g c =
 
 pub returns-in-Err : goal.returns-in-Err
 returns-in-Err g c =
-    let d = (goal.at.returns-in-Err g c).After-fill-expansion in
+    let d = (goal.at.returns-in-Err g c).After-fill_expansion in
     record { read = same_added (told-as g d c.in-Err.ensures.told) refl (rules-as g d); law = expansion_law _ _ _ _ }

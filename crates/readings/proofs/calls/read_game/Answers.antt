@@ -8,10 +8,10 @@ use Rattle.readings.proofs.calls.read_game.Goals as goal
 use Rattle.readings.proofs.calls.read_game.Goals.{In-Ok}
 
 -- the entries that are filled lie in the tables
-fits-at : (g : Over) (c : In-Ok g) → (c.in-Ok.counts.places ≤ length c.fill-game.new.places) × (c.in-Ok.counts.rules ≤ length c.fill-game.new.rules)
+fits-at : (g : Over) (c : In-Ok g) → (c.in-Ok.counts.places ≤ length c.fill_game.new.places) × (c.in-Ok.counts.rules ≤ length c.fill_game.new.rules)
 fits-at g c =
-    let p : length c.fill-game.new.places ≡ length c.args.places.now = search rules in
-    let r : length c.fill-game.new.rules ≡ length c.args.rules.now = search rules in
+    let p : length c.fill_game.new.places ≡ length c.args.places.now = search rules in
+    let r : length c.fill_game.new.rules ≡ length c.args.rules.now = search rules in
     let f = counts_fit _ c.in-Ok.counts _ _ _ _ c.in-Ok.ensures (simp length-map p) (simp length-map r) in
     (simp length-map at f.0, simp length-map at f.1)
 

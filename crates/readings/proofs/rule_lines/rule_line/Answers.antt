@@ -10,18 +10,18 @@ returns-in-Ok c = record {
   law = rule_lines_law _ _;
 }
 
-pub returns-in-Ok-find-rule : goal.returns-in-Ok-find-rule
-returns-in-Ok-find-rule c = record {
+pub returns-in-Ok-find_rule : goal.returns-in-Ok-find_rule
+returns-in-Ok-find_rule c = record {
   line =
-      found_second (rule_lines_of c.args.expansion.now) c.in-Err.left _ c.in-Ok-find-rule.ensures
+      found_second (rule_lines_of c.args.expansion.now) c.in-Err.left _ c.in-Ok-find_rule.ensures
       ∙ past_first (rule_lines_of c.args.game.now) _ c.args.rule c.in-Err.left c.in-Err.ensures;
   law = rule_lines_law _ _;
 }
 
-pub returns-in-Err-find-rule : goal.returns-in-Err-find-rule
-returns-in-Err-find-rule c = record {
+pub returns-in-Err-find_rule : goal.returns-in-Err-find_rule
+returns-in-Err-find_rule c = record {
   line =
-      past_second (rule_lines_of c.args.expansion.now) c.in-Err.left _ c.in-Err-find-rule.ensures
+      past_second (rule_lines_of c.args.expansion.now) c.in-Err.left _ c.in-Err-find_rule.ensures
       ∙ past_first (rule_lines_of c.args.game.now) _ c.args.rule c.in-Err.left c.in-Err.ensures;
   law = rule_lines_law _ _;
 }

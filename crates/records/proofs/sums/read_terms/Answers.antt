@@ -18,29 +18,29 @@ lent ps line f count held a b = ap (λ n. term_of ps line f (take n held) a b) (
 pub bounds-terms-count : goal.bounds-terms-count
 bounds-terms-count c = let h = some_left _ _ c.in-Some.ensures.answer in omega (arith, c.loop-coefficient.invariant.3 h)
 
-pub returns-in-err-term : goal.returns-in-err-term
-returns-in-err-term c =
-    let p = err_from_is_err_and c.from-residual.result c.from-residual.ensures.1 in
+pub returns-in_err-term : goal.returns-in_err-term
+returns-in_err-term c =
+    let p = err_from_is_err_and c.from_residual.result c.from_residual.ensures.1 in
     record {
-      terms = ap shown_terms p.1 ∙ ap Err p.2 ∙ two_refused (term_of (named c.args.names) c.args.line) c.loop-coefficient.field _ _ _ _ _ _ _ c.in-Some.ensures.answer c.in-Some.ensures.left c.next-field-name.ensures.field c.next-field-name.ensures.left c.loop-coefficient.invariant.0 _ (c.in-err-term.ensures ∙ lent (named c.args.names) c.args.line c.loop-coefficient.field c.loop-coefficient.terms.count c.loop-coefficient.terms.held c.in-Some.coefficient.now c.next-field-name.result.now);
-      few = IfOk-from_err _ _ c.from-residual.ensures.0;
+      terms = ap shown_terms p.1 ∙ ap Err p.2 ∙ two_refused (term_of (named c.args.names) c.args.line) c.loop-coefficient.field _ _ _ _ _ _ _ c.in-Some.ensures.answer c.in-Some.ensures.left c.next_field-name.ensures.field c.next_field-name.ensures.left c.loop-coefficient.invariant.0 _ (c.in_err-term.ensures ∙ lent (named c.args.names) c.args.line c.loop-coefficient.field c.loop-coefficient.terms.count c.loop-coefficient.terms.held c.in-Some.coefficient.now c.next_field-name.result.now);
+      few = IfOk-from_err _ _ c.from_residual.ensures.0;
     }
 
 pub loop-coefficient-smaller : goal.loop-coefficient-smaller
 loop-coefficient-smaller c =
     let h = some_left _ _ c.in-Some.ensures.answer in
-    omega (arith, ap length c.in-Some.ensures.left, ap length c.next-field-name.ensures.left, length_others (fields_left c.loop-coefficient.left), length_others (fields_left c.next.new.self))
+    omega (arith, ap length c.in-Some.ensures.left, ap length c.next_field-name.ensures.left, length_others (fields_left c.loop-coefficient.left), length_others (fields_left c.next.new.self))
 
 pub loop-coefficient-preserved : goal.loop-coefficient-preserved
 loop-coefficient-preserved c =
     let h = some_left _ _ c.in-Some.ensures.answer in
     let room = c.loop-coefficient.invariant.3 h in
     let one = ap length c.in-Some.ensures.left in
-    let two = ap length c.next-field-name.ensures.left in
+    let two = ap length c.next_field-name.ensures.left in
     let less = length_others (fields_left c.loop-coefficient.left) in
     let least = length_others (fields_left c.next.new.self) in
     let k : c.loop-coefficient.terms.count < length c.loop-coefficient.terms.held = omega (arith, c.loop-coefficient.invariant.1) in (
-      two_added (term_of (named c.args.names) c.args.line) c.loop-coefficient.field _ _ _ _ _ _ _ c.in-Some.ensures.answer c.in-Some.ensures.left c.next-field-name.ensures.field c.next-field-name.ensures.left c.loop-coefficient.invariant.0 _ _ (c.in-ok-term.ensures ∙ lent (named c.args.names) c.args.line c.loop-coefficient.field c.loop-coefficient.terms.count c.loop-coefficient.terms.held c.in-Some.coefficient.now c.next-field-name.result.now) (take_more_set c.loop-coefficient.terms.held c.loop-coefficient.terms.count _ k),
+      two_added (term_of (named c.args.names) c.args.line) c.loop-coefficient.field _ _ _ _ _ _ _ c.in-Some.ensures.answer c.in-Some.ensures.left c.next_field-name.ensures.field c.next_field-name.ensures.left c.loop-coefficient.invariant.0 _ _ (c.in_ok-term.ensures ∙ lent (named c.args.names) c.args.line c.loop-coefficient.field c.loop-coefficient.terms.count c.loop-coefficient.terms.held c.in-Some.coefficient.now c.next_field-name.result.now) (take_more_set c.loop-coefficient.terms.held c.loop-coefficient.terms.count _ k),
       length-set _ _ _ ∙ c.loop-coefficient.invariant.1,
       omega arith,
       (λ l. omega arith),
@@ -49,7 +49,7 @@ loop-coefficient-preserved c =
 
 pub returns : goal.returns
 returns c =
-    let e = none_left (fields_left c.loop-coefficient.left) c.in-default.ensures.answer in
+    let e = none_left (fields_left c.loop-coefficient.left) c.in_default.ensures.answer in
     record {
       terms = ap (terms_from (named c.args.names) c.args.line c.loop-coefficient.field _) (sym e) ∙ c.loop-coefficient.invariant.0;
       few = c.loop-coefficient.invariant.2;

@@ -7,5 +7,5 @@ use Rattle.records.proofs.two.read_apart.Goals as goal
 
 pub unreachable-requires : goal.unreachable-requires
 unreachable-requires c =
-    let two = c.in-ok-two.two in
-    both_ways _ c.in-None.ensures (ap (λ n. two_places_test n two.first two.second) c.count.ensures ∙ are_two (named c.args.names) c.args.line c.args.first.now c.args.second.now two c.in-ok-two.ensures)
+    let two = c.in_ok-two.two in
+    both_ways _ c.in-None.ensures (ap (λ n. two_places_test n two.first two.second) c.count.ensures ∙ are_two (named c.args.names) c.args.line c.args.first.now c.args.second.now two c.in_ok-two.ensures)

@@ -15,4 +15,4 @@ loop-b-preserved c =
     ]
 
 pub returns : goal.returns
-returns c = omega (arith, c.saturating-add.ensures, at_drop_all (λ xs. length (fields_of xs)) c.args.line.now c.loop-b.b-index c.loop-b-test.false)
+returns c = omega (arith, c.saturating_add.ensures, at_drop_all (λ xs. length (fields_of xs)) c.args.line.now c.loop-b.b-index c.loop-b-test.false)

@@ -20,4 +20,4 @@ loop-b-preserved c = sym (plain_more c.args.field.now c.loop-b.b-index c.loop-b-
 pub returns : goal.returns
 returns c =
     let xs = c.args.field.now in
-    is_name xs c.if-field-lt1.false c.if-field-gt-NAME-BYTES.false (sym c.loop-b.invariant ∙ at_drop_all plain_bytes xs c.loop-b.b-index c.loop-b-test.false)
+    is_name xs c.if-field-lt1.false c.if-field-gt-NAME_BYTES.false (sym c.loop-b.invariant ∙ at_drop_all plain_bytes xs c.loop-b.b-index c.loop-b-test.false)

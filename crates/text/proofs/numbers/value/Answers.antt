@@ -5,26 +5,26 @@ use Rattle.text.proofs.numbers.value.Goals as goal
 
 pub loop-b-init : goal.loop-b-init
 loop-b-init c =
-    let e = c.in-ok-n.ensures in
-    (value_first c.args.first c.in-ok-n.n c.args.rest.now (sym e), omega (arith, digit_some c.args.first c.in-ok-n.n (sym e)))
+    let e = c.in_ok-n.ensures in
+    (value_first c.args.first c.in_ok-n.n c.args.rest.now (sym e), omega (arith, digit_some c.args.first c.in_ok-n.n (sym e)))
 
-pub overflow-mul-n : goal.overflow-mul-n
-overflow-mul-n c = omega (arith, pow_below (c.loop-b.b-index + 1) 12 (omega arith))
+pub overflow_mul-n : goal.overflow_mul-n
+overflow_mul-n c = omega (arith, pow_below (c.loop-b.b-index + 1) 12 (omega arith))
 
-pub returns-in-err-n-2 : goal.returns-in-err-n-2
-returns-in-err-n-2 c =
-    rw c.from-residual-in-err-n-2.ensures (record {
-      value = sym (value_stops c.args.rest.now c.loop-b.b-index c.loop-b-test.true c.loop-b.n (sym c.in-err-n-2.ensures)) ∙ c.loop-b.invariant.0;
+pub returns-in_err-n-2 : goal.returns-in_err-n-2
+returns-in_err-n-2 c =
+    rw c.from_residual-in_err-n-2.ensures (record {
+      value = sym (value_stops c.args.rest.now c.loop-b.b-index c.loop-b-test.true c.loop-b.n (sym c.in_err-n-2.ensures)) ∙ c.loop-b.invariant.0;
       small = tt;
     })
 
-pub overflow-add-n : goal.overflow-add-n
-overflow-add-n c = omega (arith, pow_below (c.loop-b.b-index + 1) 12 (omega arith), digit_some (get_or c.args.rest.now c.loop-b.b-index 0) c.in-ok-n-2.field-0 (sym c.in-ok-n-2.ensures))
+pub overflow_add-n : goal.overflow_add-n
+overflow_add-n c = omega (arith, pow_below (c.loop-b.b-index + 1) 12 (omega arith), digit_some (get_or c.args.rest.now c.loop-b.b-index 0) c.in_ok-n-2.field-0 (sym c.in_ok-n-2.ensures))
 
 pub loop-b-preserved : goal.loop-b-preserved
 loop-b-preserved c =
-    let e = sym c.in-ok-n-2.ensures in
-    (sym (value_more c.args.rest.now c.loop-b.b-index c.loop-b-test.true c.loop-b.n c.in-ok-n-2.field-0 e) ∙ c.loop-b.invariant.0, omega (arith, pow_more (c.loop-b.b-index + 1), digit_some (get_or c.args.rest.now c.loop-b.b-index 0) c.in-ok-n-2.field-0 e))
+    let e = sym c.in_ok-n-2.ensures in
+    (sym (value_more c.args.rest.now c.loop-b.b-index c.loop-b-test.true c.loop-b.n c.in_ok-n-2.field-0 e) ∙ c.loop-b.invariant.0, omega (arith, pow_more (c.loop-b.b-index + 1), digit_some (get_or c.args.rest.now c.loop-b.b-index 0) c.in_ok-n-2.field-0 e))
 
 pub returns : goal.returns
 returns c = record {

@@ -10,8 +10,8 @@ returns-then-list-places g c working waiting keep = checking_list g.S.Span.kind 
 
 pub returns-then-several-places : goal.returns-then-several-places
 returns-then-several-places g c working waiting keep =
-    checking_several g.S.Span.kind c.args.position.now c.args.board.now working keep waiting c.args.list.now c.if-board-places.false c.if-list-places.false c.lowest-several-several.result (c.args.position.now.places - 0) (omega arith) c.lowest-several-several.ensures c.if-several-places.true
+    checking_several g.S.Span.kind c.args.position.now c.args.board.now working keep waiting c.args.list.now c.if-board-places.false c.if-list-places.false c.lowest_several-several.result (c.args.position.now.places - 0) (omega arith) c.lowest_several-several.ensures c.if-several-places.true
 
 pub returns : goal.returns
 returns g c working waiting keep =
-    checking_ready g.S.Span.kind c.args.position.now c.args.board.now working keep waiting c.args.list.now c.if-board-places.false c.if-list-places.false c.lowest-several-several.result (c.args.position.now.places - 0) (omega arith) c.lowest-several-several.ensures c.if-several-places.false
+    checking_ready g.S.Span.kind c.args.position.now c.args.board.now working keep waiting c.args.list.now c.if-board-places.false c.if-list-places.false c.lowest_several-several.result (c.args.position.now.places - 0) (omega arith) c.lowest_several-several.ensures c.if-several-places.false

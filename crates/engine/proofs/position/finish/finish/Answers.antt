@@ -9,8 +9,8 @@ loop-i-init g c = (below_none g.S.Span.kind c.args.board.now c.args.list.now, c.
 
 pub loop-i-preserved : goal.loop-i-preserved
 loop-i-preserved g c =
-    let fits : SFits w32 c.least-at.result = search rules in
-    (below_more g.S.Span.kind c.args.board.now c.loop-i.i c.args.list.now c.loop-i.list _ c.loop-i.invariant.0 (omega arith) (to_z-of_z w32 c.least-at.result fits ∙ c.least-at.ensures), c.loop-i.invariant.1)
+    let fits : SFits w32 c.least_at.result = search rules in
+    (below_more g.S.Span.kind c.args.board.now c.loop-i.i c.args.list.now c.loop-i.list _ c.loop-i.invariant.0 (omega arith) (to_z-of_z w32 c.least_at.result fits ∙ c.least_at.ensures), c.loop-i.invariant.1)
 
 pub returns : goal.returns
 unfolding finish_list

@@ -37,22 +37,22 @@ returns-then-waiting-rules g c =
       law = history_law_lem kind book c.lawful.ensures;
     }
 
-pub returns-in-err-prepare : goal.returns-in-err-prepare
-returns-in-err-prepare g c =
+pub returns-in_err-prepare : goal.returns-in_err-prepare
+returns-in_err-prepare g c =
     let kind = g.Span.Span.kind in
     let book = g.B.Book.meaning c.args.book.now in
     let B = c.args.board.now in
     let W = c.args.working.now in
     let L = c.args.waiting.now in
     let ps = c.places-places.ensures in
-    let p = err_from_is_err_and c.from-residual.result c.from-residual.ensures.1 in
+    let p = err_from_is_err_and c.from_residual.result c.from_residual.ensures.1 in
     let w = c.prepare.ensures.working ∙ ap (λ k. take k B ++ drop k W) ps in
     let l = c.prepare.ensures.waiting ∙ ap (λ k. none_wait k L) c.rules-rules.ensures in
-    let h = c.in-err-prepare.ensures.answer ∙ ap (λ k. empty_told kind (take k B)) ps in
+    let h = c.in_err-prepare.ensures.answer ∙ ap (λ k. empty_told kind (take k B)) ps in
     record {
       call = λ keep.
           ap (λ r. opened book r (lent B c.prepare.new.working c.prepare.new.waiting keep)) (p.1 ∙ ap Err p.2)
-          ∙ opening_hole kind book B W keep L (omega arith) (omega arith) (omega arith) c.prepare.new.working c.prepare.new.waiting w l c.in-err-prepare.field-0.0 h;
+          ∙ opening_hole kind book B W keep L (omega arith) (omega arith) (omega arith) c.prepare.new.working c.prepare.new.waiting w l c.in_err-prepare.field-0.0 h;
       law = history_law_lem kind book c.lawful.ensures;
     }
 
@@ -66,7 +66,7 @@ attempt-requires g c =
     let ps = c.places-places.ensures in
     let w = c.prepare.ensures.working ∙ ap (λ k. take k B ++ drop k W) ps in
     let l = c.prepare.ensures.waiting ∙ ap (λ k. none_wait k L) c.rules-rules.ensures in
-    let h = c.in-ok-prepare.ensures.answer ∙ ap (λ k. empty_told kind (take k B)) ps in
+    let h = c.in_ok-prepare.ensures.answer ∙ ap (λ k. empty_told kind (take k B)) ps in
     record {
       board = omega arith;
       working = omega (arith, c.prepare.auto.working);
@@ -74,23 +74,23 @@ attempt-requires g c =
       waiting = omega (arith, c.prepare.auto.waiting);
     }
 
-pub returns-in-err-strikes : goal.returns-in-err-strikes
-returns-in-err-strikes g c =
+pub returns-in_err-strikes : goal.returns-in_err-strikes
+returns-in_err-strikes g c =
     let kind = g.Span.Span.kind in
     let book = g.B.Book.meaning c.args.book.now in
     let B = c.args.board.now in
     let W = c.args.working.now in
     let L = c.args.waiting.now in
     let ps = c.places-places.ensures in
-    let p = err_from_is_err_and c.from-residual-in-err-strikes.result c.from-residual-in-err-strikes.ensures.1 in
+    let p = err_from_is_err_and c.from_residual-in_err-strikes.result c.from_residual-in_err-strikes.ensures.1 in
     let w = c.prepare.ensures.working ∙ ap (λ k. take k B ++ drop k W) ps in
     let l = c.prepare.ensures.waiting ∙ ap (λ k. none_wait k L) c.rules-rules.ensures in
-    let h = c.in-ok-prepare.ensures.answer ∙ ap (λ k. empty_told kind (take k B)) ps in
-    let e = c.in-err-strikes.ensures in
+    let h = c.in_ok-prepare.ensures.answer ∙ ap (λ k. empty_told kind (take k B)) ps in
+    let e = c.in_err-strikes.ensures in
     record {
       call = λ keep.
           ap (λ r. opened book r (lent c.attempt.new.board c.attempt.new.working c.attempt.new.waiting keep)) (p.1 ∙ ap Err p.2)
-          ∙ opening_tried kind book B W keep L (omega arith) (omega arith) (omega arith) c.prepare.new.working c.prepare.new.waiting w l h (Err c.in-err-strikes.field-0.0) c.attempt.new.board c.attempt.new.working c.attempt.new.waiting e.answer e.board e.working e.waiting;
+          ∙ opening_tried kind book B W keep L (omega arith) (omega arith) (omega arith) c.prepare.new.working c.prepare.new.waiting w l h (Err c.in_err-strikes.field-0.0) c.attempt.new.board c.attempt.new.working c.attempt.new.waiting e.answer e.board e.working e.waiting;
       law = history_law_lem kind book c.lawful.ensures;
     }
 
@@ -104,11 +104,11 @@ returns g c =
     let ps = c.places-places.ensures in
     let w = c.prepare.ensures.working ∙ ap (λ k. take k B ++ drop k W) ps in
     let l = c.prepare.ensures.waiting ∙ ap (λ k. none_wait k L) c.rules-rules.ensures in
-    let h = c.in-ok-prepare.ensures.answer ∙ ap (λ k. empty_told kind (take k B)) ps in
-    let e = c.in-ok-strikes.ensures in
+    let h = c.in_ok-prepare.ensures.answer ∙ ap (λ k. empty_told kind (take k B)) ps in
+    let e = c.in_ok-strikes.ensures in
     record {
       call = λ keep.
-          ap₂ (λ x y. record { answer = Ok c.in-ok-strikes.strikes; state = record { places = x; rules = y; marks = 0; memory = lent c.attempt.new.board c.attempt.new.working c.attempt.new.waiting keep } }) ps c.rules-rules.ensures
-          ∙ opening_tried kind book B W keep L (omega arith) (omega arith) (omega arith) c.prepare.new.working c.prepare.new.waiting w l h (Ok c.in-ok-strikes.strikes) c.attempt.new.board c.attempt.new.working c.attempt.new.waiting e.answer e.board e.working e.waiting;
+          ap₂ (λ x y. record { answer = Ok c.in_ok-strikes.strikes; state = record { places = x; rules = y; marks = 0; memory = lent c.attempt.new.board c.attempt.new.working c.attempt.new.waiting keep } }) ps c.rules-rules.ensures
+          ∙ opening_tried kind book B W keep L (omega arith) (omega arith) (omega arith) c.prepare.new.working c.prepare.new.waiting w l h (Ok c.in_ok-strikes.strikes) c.attempt.new.board c.attempt.new.working c.attempt.new.waiting e.answer e.board e.working e.waiting;
       law = history_law_lem kind book c.lawful.ensures;
     }

@@ -26,7 +26,7 @@ returns-in-Ok g c =
     record {
       answer = sym (ap verdict_answer whole);
       board =
-          ap₂ (λ x k. x ++ drop k c.args.board.now) (c.copy-from-slice.ensures.after ∙ take_at c.settle.new.board (drop n c.args.working.now) n after-long) is
+          ap₂ (λ x k. x ++ drop k c.args.board.now) (c.copy_from_slice.ensures.after ∙ take_at c.settle.new.board (drop n c.args.working.now) n after-long) is
           ∙ sym (ap (λ v. verdict_board (take book.places c.args.board.now) v ++ drop book.places c.args.board.now) whole);
       working = ap (λ k. c.settle.new.board ++ drop k c.args.working.now) is ∙ sym (ap (λ v. verdict_board (take book.places c.args.board.now) v ++ drop book.places c.args.working.now) whole);
       waiting = c.fill.ensures ∙ ap₂ (λ k j. filled k 0 (c.settle.new.waiting ++ drop j c.args.waiting.now)) c.rules-rules.ensures are ∙ cleared book.rules c.args.waiting.now c.settle.new.waiting waiting_long;
@@ -50,7 +50,7 @@ returns-in-Err g c =
       answer = sym (ap verdict_answer whole);
       board = sym (ap (λ v. verdict_board (take book.places c.args.board.now) v ++ drop book.places c.args.board.now) whole ∙ take-append-drop book.places c.args.board.now);
       working =
-          ap₂ (λ x y. x ++ y) c.copy-from-slice-in-Err.ensures.after (drop_at c.settle.new.board (drop n c.args.working.now) n after-long)
+          ap₂ (λ x y. x ++ y) c.copy_from_slice-in-Err.ensures.after (drop_at c.settle.new.board (drop n c.args.working.now) n after-long)
           ∙ ap (λ k. take k c.args.board.now ++ drop k c.args.working.now) is
           ∙ sym (ap (λ v. verdict_board (take book.places c.args.board.now) v ++ drop book.places c.args.working.now) whole);
       waiting = c.fill-in-Err.ensures ∙ ap₂ (λ k j. filled k 0 (c.settle.new.waiting ++ drop j c.args.waiting.now)) c.rules-rules.ensures are ∙ cleared book.rules c.args.waiting.now c.settle.new.waiting waiting_long;

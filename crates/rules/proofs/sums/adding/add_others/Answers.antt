@@ -18,15 +18,15 @@ use Rattle.rules.proofs.sums.adding.add_others.Goals.{then-t-place, else-t-place
 pub bounds-board-t : goal.bounds-board-t
 bounds-board-t c = place_at (length c.args.board.now) c.args.terms.now c.loop-i.i c.loop-i-test.true c.requires.terms
 
-pub returns-then-is-empty : goal.returns-then-is-empty
-returns-then-is-empty c =
+pub returns-then-is_empty : goal.returns-then-is_empty
+returns-then-is_empty c =
     let b = c.args.board.now in
     let ts = c.args.terms.now in
     let i = c.loop-i.i in
     let h = c.loop-i-test.true in
     let p = (get_or ts i blank).place in
     let s = c.index-board-t.is ∙ get_or_default b p c.index-board-t.result amounts.none (place_at (length b) ts i h c.requires.terms) in
-    let z = ap amount_size (sym s) ∙ eqb-true (amount_size c.index-board-t.result) 0 (sym c.is-empty.ensures.count ∙ c.if-is-empty.true) in
+    let z = ap amount_size (sym s) ∙ eqb-true (amount_size c.index-board-t.result) 0 (sym c.is_empty.ensures.count ∙ c.if-is_empty.true) in
     ap (passed ts b) (sym (cond-false (all_some ts b) (index_from 0 c.args.place ts None) None (sym c.loop-i.invariant.0 ∙ empty_here ts b c.args.place i h z)))
 
 pub loop-i-init : goal.loop-i-init
@@ -35,42 +35,42 @@ loop-i-init c =
     let a = index_in ts c.args.place in
     (refl, refl, adding_none (least_on c.args.board.now) a ts, adding_none (greatest_on c.args.board.now) a ts)
 
-pub least-product-low-requires : goal.least-product-low-requires
-least-product-low-requires c =
+pub least_product-low-requires : goal.least_product-low-requires
+least_product-low-requires c =
     let b = c.args.board.now in
     let ts = c.args.terms.now in
     let i = c.loop-i.i in
     requires_back b (get_or ts i blank) (coefficient_at_lem (length b) ts i c.loop-i-test.true c.requires.terms) (place_at (length b) ts i c.loop-i-test.true c.requires.terms)
 
-pub overflow-add-low : goal.overflow-add-low
-overflow-add-low c =
+pub overflow_add-low : goal.overflow_add-low
+overflow_add-low c =
     let b = c.args.board.now in
     let ts = c.args.terms.now in
     let i = c.loop-i.i in
     let t = get_or ts i blank in
     let h = c.loop-i-test.true in
     let k = coefficient_at_lem (length b) ts i h c.requires.terms in
-    let e = product_on b t k (place_at (length b) ts i h c.requires.terms) least_product_of c.index-board-t.result c.least-product-low.result c.index-board-t.is c.least-product-low.ensures in
+    let e = product_on b t k (place_at (length b) ts i h c.requires.terms) least_product_of c.index-board-t.result c.least_product-low.result c.index-board-t.is c.least_product-low.ensures in
     let n = subst (Near 10_000_000_000) (sym e) (least_near t.coefficient _ k) in
     let m = c.loop-i.invariant.2.near in
     omega (arith, ints, n.low, n.high, m.low, m.high, h, c.requires.few)
 
-pub greatest-product-high-requires : goal.greatest-product-high-requires
-greatest-product-high-requires c =
+pub greatest_product-high-requires : goal.greatest_product-high-requires
+greatest_product-high-requires c =
     let b = c.args.board.now in
     let ts = c.args.terms.now in
     let i = c.loop-i.i in
     requires_back b (get_or ts i blank) (coefficient_at_lem (length b) ts i c.loop-i-test.true c.requires.terms) (place_at (length b) ts i c.loop-i-test.true c.requires.terms)
 
-pub overflow-add-high : goal.overflow-add-high
-overflow-add-high c =
+pub overflow_add-high : goal.overflow_add-high
+overflow_add-high c =
     let b = c.args.board.now in
     let ts = c.args.terms.now in
     let i = c.loop-i.i in
     let t = get_or ts i blank in
     let h = c.loop-i-test.true in
     let k = coefficient_at_lem (length b) ts i h c.requires.terms in
-    let e = product_on b t k (place_at (length b) ts i h c.requires.terms) greatest_product_of c.index-board-t.result c.greatest-product-high.result c.index-board-t.is c.greatest-product-high.ensures in
+    let e = product_on b t k (place_at (length b) ts i h c.requires.terms) greatest_product_of c.index-board-t.result c.greatest_product-high.result c.index-board-t.is c.greatest_product-high.ensures in
     let n = subst (Near 10_000_000_000) (sym e) (greatest_near t.coefficient _ k) in
     let m = c.loop-i.invariant.3.near in
     omega (arith, ints, n.low, n.high, m.low, m.high, h, c.requires.few)
@@ -89,7 +89,7 @@ loop-i-preserved c =
     let l = c.loop-i.invariant.2 in
     let g = c.loop-i.invariant.3 in
     let s = c.index-board-t.is ∙ get_or_default b p c.index-board-t.result amounts.none inside in
-    let z = ap (λ (x : Amount). eqb (amount_size x) 0) (sym s) ∙ sym c.is-empty.ensures.count ∙ c.if-is-empty.false in
+    let z = ap (λ (x : Amount). eqb (amount_size x) 0) (sym s) ∙ sym c.is_empty.ensures.count ∙ c.if-is_empty.false in
     let some = sym (some_here ts b c.args.place i h z) ∙ c.loop-i.invariant.0 in
     let index : (new : _) → new ≡ cond (eqb p c.args.place) (Some i) c.loop-i.found → _ = λ new e. sym (index_here ts b c.args.place i h c.loop-i.found new e) ∙ c.loop-i.invariant.1 in
     elim c.if-t-place.branch [
@@ -104,10 +104,10 @@ loop-i-preserved c =
       | else-t-place w ↦
           (let away = index_elsewhere c.args.place ts i h w.if-t-place.false in
           let found = w.found-is ∙ sym (cond-false (eqb p c.args.place) (Some i) c.loop-i.found (ne_eqb p c.args.place w.if-t-place.false)) in
-          let x = w.least-product-low.result in
-          let y = w.greatest-product-high.result in
-          let x-is = product_on b t k inside least_product_of c.index-board-t.result x c.index-board-t.is w.least-product-low.ensures in
-          let y-is = product_on b t k inside greatest_product_of c.index-board-t.result y c.index-board-t.is w.greatest-product-high.ensures in
+          let x = w.least_product-low.result in
+          let y = w.greatest_product-high.result in
+          let x-is = product_on b t k inside least_product_of c.index-board-t.result x c.index-board-t.is w.least_product-low.ensures in
+          let y-is = product_on b t k inside greatest_product_of c.index-board-t.result y c.index-board-t.is w.greatest_product-high.ensures in
           let n = subst (Near 10_000_000_000) (sym x-is) (least_near t.coefficient _ k) in
           let m = subst (Near 10_000_000_000) (sym y-is) (greatest_near t.coefficient _ k) in (
             some,

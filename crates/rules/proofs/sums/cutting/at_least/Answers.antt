@@ -6,8 +6,8 @@ use Rattle.rules.proofs.SumProducts.{coefficient_is, coefficient_test}
 use Rattle.rules.proofs.SumCutting.{negated}
 use Rattle.rules.proofs.sums.cutting.at_least.Goals as goal
 
-pub at-most-requires : goal.at-most-requires
-at-most-requires c =
+pub at_most-requires : goal.at_most-requires
+at_most-requires c =
     let k = coefficient_is c.args.a c.requires.a in
     let a-is : neg_ℤ c.args.a ≡ to_z w32 (of_z w32 (pos 0 -ℤ to_z w32 (of_z w32 c.args.a))) = omega (arith, ints) in
     record {
@@ -20,4 +20,4 @@ returns c =
     let k = coefficient_is c.args.a c.requires.a in
     let a-is : to_z w32 (of_z w32 (pos 0 -ℤ to_z w32 (of_z w32 c.args.a))) ≡ neg_ℤ c.args.a = omega (arith, ints) in
     let r-is : to_z w64 (of_z w64 (pos 0 -ℤ to_z w64 (of_z w64 c.args.r))) ≡ neg_ℤ c.args.r = omega (arith, ints) in
-    c.at-most.ensures ∙ ap₂ (λ (a r : ℤ). keep_at_most a r c.args.span) a-is r-is
+    c.at_most.ensures ∙ ap₂ (λ (a r : ℤ). keep_at_most a r c.args.span) a-is r-is

@@ -10,23 +10,23 @@ pub returns-then-a-gt0 : goal.returns-then-a-gt0
 returns-then-a-gt0 c =
     let a-is : to_z w64 (of_z w64 (to_z w32 (of_z w32 c.args.a))) ≡ c.args.a = omega (arith, ints) in
     let r-is : to_z w64 (of_z w64 c.args.r) ≡ c.args.r = omega (arith, ints) in
-    let q-is : to_z w64 (of_z w64 c.div-euclid.result) ≡ c.div-euclid.result = omega (arith, ints) in
-    c.cut-above.ensures
-    ∙ keep_above c.args.a c.args.r _ c.args.span (by_sign c.args.a true c.ranges.a c.if-a-gt0.true) (q-is ∙ c.div-euclid.ensures ∙ ap₂ int_div_euclid r-is a-is)
+    let q-is : to_z w64 (of_z w64 c.div_euclid.result) ≡ c.div_euclid.result = omega (arith, ints) in
+    c.cut_above.ensures
+    ∙ keep_above c.args.a c.args.r _ c.args.span (by_sign c.args.a true c.ranges.a c.if-a-gt0.true) (q-is ∙ c.div_euclid.ensures ∙ ap₂ int_div_euclid r-is a-is)
 
-pub div-euclid-requires-2 : goal.div-euclid-requires-2
-div-euclid-requires-2 c =
+pub div_euclid-requires-2 : goal.div_euclid-requires-2
+div_euclid-requires-2 c =
     let l = below_zero c.args.a c.requires.a (by_sign c.args.a false c.ranges.a c.if-a-gt0.false) in
     record { nonzero = omega (arith, ints); no_overflow = λ e f. omega (arith, ints) }
 
-pub overflow-sub-div-euclid : goal.overflow-sub-div-euclid
-overflow-sub-div-euclid c =
+pub overflow_sub-div_euclid : goal.overflow_sub-div_euclid
+overflow_sub-div_euclid c =
     let a = c.args.a in
     let l = below_zero a c.requires.a (by_sign a false c.ranges.a c.if-a-gt0.false) in
     let a-is : to_z w64 (of_z w64 (pos 0 -ℤ to_z w64 (of_z w64 (to_z w32 (of_z w32 a))))) ≡ neg_ℤ a = omega (arith, ints) in
     let r-is : to_z w64 (of_z w64 c.args.r) ≡ c.args.r = omega (arith, ints) in
     let n = quotient_near 2_000_000_000_000 (neg_ℤ a) c.args.r (over_zero a l) (record { low = c.requires.r.0; high = c.requires.r.1 }) in
-    let q-is = c.div-euclid-2.ensures ∙ ap₂ int_div_euclid r-is a-is in
+    let q-is = c.div_euclid-2.ensures ∙ ap₂ int_div_euclid r-is a-is in
     omega (arith, ints, n.low, n.high, q-is)
 
 pub returns : goal.returns
@@ -36,6 +36,6 @@ returns c =
     let a-is : to_z w64 (of_z w64 (pos 0 -ℤ to_z w64 (of_z w64 (to_z w32 (of_z w32 a))))) ≡ neg_ℤ a = omega (arith, ints) in
     let r-is : to_z w64 (of_z w64 c.args.r) ≡ c.args.r = omega (arith, ints) in
     let n = quotient_near 2_000_000_000_000 (neg_ℤ a) c.args.r (over_zero a l) (record { low = c.requires.r.0; high = c.requires.r.1 }) in
-    let q-is = c.div-euclid-2.ensures ∙ ap₂ int_div_euclid r-is a-is in
-    let back : to_z w64 (of_z w64 (pos 0 -ℤ to_z w64 (of_z w64 c.div-euclid-2.result))) ≡ neg_ℤ (int_div_euclid c.args.r (neg_ℤ a)) = omega (arith, ints, n.low, n.high, q-is) in
-    c.cut-below.ensures ∙ keep_below a c.args.r _ c.args.span (by_sign a false c.ranges.a c.if-a-gt0.false) back
+    let q-is = c.div_euclid-2.ensures ∙ ap₂ int_div_euclid r-is a-is in
+    let back : to_z w64 (of_z w64 (pos 0 -ℤ to_z w64 (of_z w64 c.div_euclid-2.result))) ≡ neg_ℤ (int_div_euclid c.args.r (neg_ℤ a)) = omega (arith, ints, n.low, n.high, q-is) in
+    c.cut_below.ensures ∙ keep_below a c.args.r _ c.args.span (by_sign a false c.ranges.a c.if-a-gt0.false) back

@@ -11,8 +11,8 @@ returns-then-limit-floor c =
     let less : int_min c.args.limit c.args.span.ceiling <ℤ c.args.span.floor = omega (arith, ints, clamps) in
     c.empty.ensures ∙ out_of_order c.args.span.floor (int_min c.args.limit c.args.span.ceiling) less
 
-pub overflow-cast-min : goal.overflow-cast-min
-overflow-cast-min c = let r = reach c.args.span in omega (arith, ints, clamps)
+pub overflow_cast-min : goal.overflow_cast-min
+overflow_cast-min c = let r = reach c.args.span in omega (arith, ints, clamps)
 
 pub returns : goal.returns
 returns c =

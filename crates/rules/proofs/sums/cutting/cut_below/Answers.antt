@@ -11,8 +11,8 @@ returns-then-limit-ceiling c =
     let less : c.args.span.ceiling <ℤ int_max c.args.limit c.args.span.floor = omega (arith, ints, clamps) in
     c.empty.ensures ∙ out_of_order (int_max c.args.limit c.args.span.floor) c.args.span.ceiling less
 
-pub overflow-cast-max : goal.overflow-cast-max
-overflow-cast-max c = let r = reach c.args.span in omega (arith, ints, clamps)
+pub overflow_cast-max : goal.overflow_cast-max
+overflow_cast-max c = let r = reach c.args.span in omega (arith, ints, clamps)
 
 pub returns : goal.returns
 returns c =

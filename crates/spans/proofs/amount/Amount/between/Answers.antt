@@ -5,8 +5,8 @@ use Rattle.spans.specs.declared.amount.Amount.{Amount}
 use Rattle.spans.proofs.Amounting.{from_made, from_empty}
 use Rattle.spans.proofs.amount.Amount.between.Goals as goal
 
-pub returns-then-are-bounds : goal.returns-then-are-bounds
-returns-then-are-bounds c =
+pub returns-then-are_bounds : goal.returns-then-are_bounds
+returns-then-are_bounds c =
     let e = from_made _ c.args.floor c.args.ceiling (search rules) (search rules) (search rules) in
     record { value = e; admits = λ x. ap (λ (a : Amount). amount_admits a x) e ∙ from_admits c.args.floor c.args.ceiling x }
 

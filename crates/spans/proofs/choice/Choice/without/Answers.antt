@@ -9,8 +9,8 @@ use Rattle.spans.proofs.choice.Choice.without.Goals as goal
 pub returns : goal.returns
 returns c =
     let m = c.args.self.mask in
-    let r = c.mask-of.result in
+    let r = c.mask_of.result in
     let k = c.args.token in
     let others = 2 ^ tokens - 1 - r in
     bits_by (bit_and m others) (λ t. bit m t && not (eqb t k)) (and_lt tokens m others (mask_below c.args.self) (omega arith))
-    (λ t h. bit_and_lem m others t ∙ ap (λ (b : Bool). bit m t && b) (bit_not tokens r t c.mask-of.type-inv h ∙ ap not (at_token r k c.mask-of.type-inv c.mask-of.ensures t h)))
+    (λ t h. bit_and_lem m others t ∙ ap (λ (b : Bool). bit m t && b) (bit_not tokens r t c.mask_of.type_inv h ∙ ap not (at_token r k c.mask_of.type_inv c.mask_of.ensures t h)))

@@ -8,20 +8,20 @@ returns-then-rest-eq0 c =
     let e = reads_end s.read s.sheet.now s.offset c.if-rest-eq0.true in
     record { answer = ap (λ t. t.answer) e; left = ap (λ t. t.left) e; read = ap (λ t. t.read) e; sheet = refl }
 
-pub returns-then-n-gt-LINE-BYTES : goal.returns-then-n-gt-LINE-BYTES
-returns-then-n-gt-LINE-BYTES c =
+pub returns-then-n-gt-LINE_BYTES : goal.returns-then-n-gt-LINE_BYTES
+returns-then-n-gt-LINE_BYTES c =
     let s = c.args.self.now in
-    let e = reads_too_long s.read s.sheet.now s.offset _ c.length-before-n.ensures.value c.if-rest-eq0.false c.if-n-gt-LINE-BYTES.true in
+    let e = reads_too_long s.read s.sheet.now s.offset _ c.length_before-n.ensures.value c.if-rest-eq0.false c.if-n-gt-LINE_BYTES.true in
     record { answer = ap (λ t. t.answer) e; left = ap (λ t. t.left) e; read = ap (λ t. t.read) e; sheet = refl }
 
 pub returns-then-n-rest : goal.returns-then-n-rest
 returns-then-n-rest c =
     let s = c.args.self.now in
-    let e = reads_unended s.read s.sheet.now s.offset _ c.length-before-n.ensures.value c.if-rest-eq0.false c.if-n-gt-LINE-BYTES.false c.if-n-rest.true in
+    let e = reads_unended s.read s.sheet.now s.offset _ c.length_before-n.ensures.value c.if-rest-eq0.false c.if-n-gt-LINE_BYTES.false c.if-n-rest.true in
     record { answer = ap (λ t. t.answer) e; left = ap (λ t. t.left) e; read = ap (λ t. t.read) e; sheet = refl }
 
 pub returns : goal.returns
 returns c =
     let s = c.args.self.now in
-    let e = reads_line s.read s.sheet.now s.offset _ c.length-before-n.ensures.value c.if-rest-eq0.false c.if-n-gt-LINE-BYTES.false c.if-n-rest.false in
+    let e = reads_line s.read s.sheet.now s.offset _ c.length_before-n.ensures.value c.if-rest-eq0.false c.if-n-gt-LINE_BYTES.false c.if-n-rest.false in
     record { answer = ap (λ t. t.answer) e; left = ap (λ t. t.left) e; read = ap (λ t. t.read) e; sheet = refl }

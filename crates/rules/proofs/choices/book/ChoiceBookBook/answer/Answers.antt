@@ -27,9 +27,9 @@ returns c =
     let rule = own_rule (place_count book.places) book.rows.now c.args.rule c.index-self-rule.result (omega arith) fit in
     let two = row_places row in
     let here = read_span board p p c.index-board-place.result (omega arith) c.index-board-place.is refl in
-    let first = read_span board c.place-on.result (link_of row).first c.index-board-place-on.result (omega (arith, two.one)) c.index-board-place-on.is c.place-on.ensures in
-    let second = read_span board c.place-on-2.result (link_of row).second c.index-board-place-on-2.result (omega (arith, two.two)) c.index-board-place-on-2.is c.place-on-2.ensures in
+    let first = read_span board c.place_on.result (link_of row).first c.index-board-place_on.result (omega (arith, two.one)) c.index-board-place_on.is c.place_on.ensures in
+    let second = read_span board c.place_on-2.result (link_of row).second c.index-board-place_on-2.result (omega (arith, two.two)) c.index-board-place_on-2.is c.place_on-2.ensures in
     c.answer.ensures
-    ∙ ap (λ (s : Choice). answer_from (link_of row) p s c.index-board-place-on.result c.index-board-place-on-2.result) here
+    ∙ ap (λ (s : Choice). answer_from (link_of row) p s c.index-board-place_on.result c.index-board-place_on-2.result) here
     ∙ ap₂ (λ (s t : Choice). answer_from (link_of row) p (span_at choices board p) s t) first second
     ∙ sym (ap (λ (r : Rule Choice). r.answer p board) rule)

@@ -18,7 +18,7 @@ returns-then-i-eq0 c =
     let book = c.args.self.now in
     let link = link_of (get_or book.rows.now c.args.rule c.index-self-rule.result) in
     let rule = own_rule (place_count book.places) book.rows.now c.args.rule c.index-self-rule.result (omega arith) (sym c.places.ensures ∙ c.if-places.false ∙ c.places-2.ensures) in
-    c.place-on.ensures ∙ sym (ap (λ (r : Rule Choice). get_or r.scope c.args.i 0) rule ∙ first_at link.first link.second c.args.i c.if-i-eq0.true)
+    c.place_on.ensures ∙ sym (ap (λ (r : Rule Choice). get_or r.scope c.args.i 0) rule ∙ first_at link.first link.second c.args.i c.if-i-eq0.true)
 
 pub returns : goal.returns
 returns c =
@@ -26,4 +26,4 @@ returns c =
     let link = link_of (get_or book.rows.now c.args.rule c.index-self-rule.result) in
     let rule = own_rule (place_count book.places) book.rows.now c.args.rule c.index-self-rule.result (omega arith) (sym c.places.ensures ∙ c.if-places.false ∙ c.places-2.ensures) in
     let below = subst (λ (r : Rule Choice). c.args.i < length r.scope) rule c.requires.i in
-    c.place-on-2.ensures ∙ sym (ap (λ (r : Rule Choice). get_or r.scope c.args.i 0) rule ∙ second_at link.first link.second c.args.i below c.if-i-eq0.false)
+    c.place_on-2.ensures ∙ sym (ap (λ (r : Rule Choice). get_or r.scope c.args.i 0) rule ∙ second_at link.first link.second c.args.i below c.if-i-eq0.false)

@@ -11,7 +11,7 @@ loop-i-preserved c = (
 
 pub returns : goal.returns
 returns c = (
-  row_fine c.args.places c.args.first c.args.second (length c.args.pairs.now) (sym c.if-not-are-two-places.ensures) (omega arith) c.if-pairs-gt-MOST-PAIRS.false,
+  row_fine c.args.places c.args.first c.args.second (length c.args.pairs.now) (sym c.if-not-are_two_places.ensures) (omega arith) c.if-pairs-gt-MOST_PAIRS.false,
   refl,
   refl,
   refl,

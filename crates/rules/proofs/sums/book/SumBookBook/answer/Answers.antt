@@ -24,4 +24,4 @@ returns c =
     let d = c.index-self-rule.result in
     let h : c.args.rule < length rows = omega arith in
     let e = rule_same n rows c.args.rule d h (sym c.places.ensures ∙ c.if-places.false ∙ c.places-2.ensures) in
-    c.sum-answer.ensures ∙ sym (ap (λ (r : Rule Amount). r.answer c.args.place c.args.board.now) e)
+    c.sum_answer.ensures ∙ sym (ap (λ (r : Rule Amount). r.answer c.args.place c.args.board.now) e)

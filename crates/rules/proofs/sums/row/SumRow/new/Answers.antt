@@ -5,8 +5,8 @@ use Rattle.rules.specs.declared.sums.term.Term.{Term}
 use Rattle.rules.proofs.SumRowing.{made_ok}
 use Rattle.rules.proofs.sums.row.SumRow.new.Goals as goal
 
-pub invariant-of-result : goal.invariant-of-result
-invariant-of-result c =
+pub invariant_of-result : goal.invariant_of-result
+invariant_of-result c =
     let ts = c.args.terms.now in
     let z = to_z w64 (of_z w64 c.args.bound) in
-    (subst (λ (l : List Term). T (leb (length ts) 16 && sum_test c.args.places z (take (length ts) l))) (sym c.pad.ensures) (made_ok c.args.places z ts (drop (length ts) (replicate 16 blank)) (sym c.is-sum.ensures ∙ c.if-not-is-sum.false)), tt)
+    (subst (λ (l : List Term). T (leb (length ts) 16 && sum_test c.args.places z (take (length ts) l))) (sym c.pad.ensures) (made_ok c.args.places z ts (drop (length ts) (replicate 16 blank)) (sym c.is_sum.ensures ∙ c.if-not-is_sum.false)), tt)

@@ -3,8 +3,8 @@ use borrow.Author.Differences.{ints}
 use Rattle.spans.proofs.Amounting.{reach, extent}
 use Rattle.spans.proofs.amount.methods.AmountSpan.count.Goals as goal
 
-pub overflow-cast-result : goal.overflow-cast-result
-overflow-cast-result c = let r = reach c.args.self in (omega (arith, ints), omega (arith, ints))
+pub overflow_cast-result : goal.overflow_cast-result
+overflow_cast-result c = let r = reach c.args.self in (omega (arith, ints), omega (arith, ints))
 
 pub returns : goal.returns
 returns c =

@@ -19,4 +19,4 @@ returns c =
     let k = nat_abs (to_z w32 (of_z w32 c.args.number)) in
     let is : c.args.number ≡ pos k = omega (arith, ints) in
     let few : k < tokens = omega (arith, ints) in
-    bit_test c.mask-of.result k c.mask-of.type-inv c.mask-of.ensures c.args.self.mask (mask_below c.args.self) few ∙ ap (choice_admits c.args.self) (sym is)
+    bit_test c.mask_of.result k c.mask_of.type_inv c.mask_of.ensures c.args.self.mask (mask_below c.args.self) few ∙ ap (choice_admits c.args.self) (sym is)
