@@ -12,6 +12,7 @@ import sys
 TOKEN = re.compile(r"[^\s(){}\[\].,;«»:=]+")
 MADE = [
     (r"\boverflow-(add|sub|mul|shl|shr|cast|step|neg)\b", r"overflow_\1"),
+    (r"\btype-inv\b", "type_inv"),
     (r"\bin-err\b", "in_err"),
     (r"\bin-ok\b", "in_ok"),
     (r"\bin-default\b", "in_default"),

@@ -7,21 +7,21 @@ use books::Book;
 
 // Sweeps leave the widest settled board inside a board, or show that none lies inside it.
 pub fn sweeps_law<B: Book>(book: &B)
-    ensures { SweepsLaw Span-as-Span.kind (B.Book.meaning book.now) }
+    ensures { SweepsLaw B.Span.Span.kind (B.Book.meaning book.now) }
 {
     book.lawful();
 }
 
 // Passing over the rules that do not wait changes neither the board left nor the strikes, nor the place and the rule of a refusal.
 pub fn passing_law<B: Book>(book: &B)
-    ensures { PassingLaw Span-as-Span.kind (B.Book.meaning book.now) }
+    ensures { PassingLaw B.Span.Span.kind (B.Book.meaning book.now) }
 {
     book.lawful();
 }
 
 // What every history of a position shows, grants and refuses, by its opening board and the limits in force alone.
 pub fn history_law<B: Book>(book: &B)
-    ensures { HistoryLaw Span-as-Span.kind (B.Book.meaning book.now) }
+    ensures { HistoryLaw B.Span.Span.kind (B.Book.meaning book.now) }
 {
     book.lawful();
 }

@@ -12,11 +12,11 @@ use Rattle.engine.proofs.Waits.{length_filled}
 use Rattle.engine.proofs.sweep.settle.Goals as goal
 
 pub loop-after-init : goal.loop-after-init
-loop-after-init g c = (suc (total g.Span.Span.kind c.args.board.now), omega arith, record { full = c.requires.full; falls = omega arith; long = refl; rises = omega arith }, refl)
+loop-after-init g c = (suc (total g.B.Span.Span.kind c.args.board.now), omega arith, record { full = c.requires.full; falls = omega arith; long = refl; rises = omega arith }, refl)
 
 pub sweep-requires : goal.sweep-requires
 sweep-requires g c =
-    let kind = g.Span.Span.kind in
+    let kind = g.B.Span.Span.kind in
     let book = g.B.Book.meaning c.args.book.now in
     let k = c.loop-after.invariant.2 in
     let w : length c.fill.new.waiting ≡ length c.args.waiting.now = ap length c.fill.ensures ∙ length_filled c.rules.result 1 c.args.waiting.now (omega arith) in
@@ -66,7 +66,7 @@ all-wait kind book b w w' rules e f = ap (λ (v : List ℕ). skims kind book (su
 
 pub returns-in_err-after : goal.returns-in_err-after
 returns-in_err-after g c =
-    let kind = g.Span.Span.kind in
+    let kind = g.B.Span.Span.kind in
     let book = g.B.Book.meaning c.args.book.now in
     let l = c.loop-after in
     let by = c.in_err-after.field-0.0 in
@@ -77,7 +77,7 @@ returns-in_err-after g c =
 
 pub returns-then-after-strikes : goal.returns-then-after-strikes
 returns-then-after-strikes g c =
-    let kind = g.Span.Span.kind in
+    let kind = g.B.Span.Span.kind in
     let book = g.B.Book.meaning c.args.book.now in
     let l = c.loop-after in
     let whole = all-wait kind book c.args.board.now c.args.waiting.now c.fill.new.waiting c.rules.result c.rules.ensures c.fill.ensures in
@@ -87,11 +87,11 @@ returns-then-after-strikes g c =
 pub loop-after-smaller : goal.loop-after-smaller
 loop-after-smaller g c =
     let l = c.loop-after in
-    falls g.Span.Span.kind (g.B.Book.meaning c.args.book.now) c.lawful.ensures _ _ l.invariant.0 l.board l.waiting l.strikes l.invariant.1 l.invariant.2 c.sweep.new.board c.sweep.new.waiting c.in_ok-after.after (sym c.in_ok-after.ensures) c.if-after-strikes.false
+    falls g.B.Span.Span.kind (g.B.Book.meaning c.args.book.now) c.lawful.ensures _ _ l.invariant.0 l.board l.waiting l.strikes l.invariant.1 l.invariant.2 c.sweep.new.board c.sweep.new.waiting c.in_ok-after.after (sym c.in_ok-after.ensures) c.if-after-strikes.false
 
 pub loop-after-preserved : goal.loop-after-preserved
 loop-after-preserved g c =
-    let kind = g.Span.Span.kind in
+    let kind = g.B.Span.Span.kind in
     let book = g.B.Book.meaning c.args.book.now in
     let l = c.loop-after in
     let e = sym c.in_ok-after.ensures in

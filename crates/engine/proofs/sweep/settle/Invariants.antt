@@ -7,7 +7,7 @@ use Rattle.engine.proofs.sweep.settle.Given as goal
 -- some number of sweeps is enough from here, and they come to what all come to
 abbrev pub invariant-loop-after : goal.invariant-loop-after
 invariant-loop-after g l =
-    let kind = g.Span.Span.kind in
+    let kind = g.B.Span.Span.kind in
     let book = g.B.Book.meaning l.book in
     (m : ℕ)
     × (total kind l.board < m)
@@ -15,4 +15,4 @@ invariant-loop-after g l =
     × (skims kind book (suc (total kind l.initial.board)) l.initial.board l.initial.waiting 0 ≡ skims kind book m l.board l.waiting l.strikes)
 
 abbrev pub decreases-loop-after : goal.decreases-loop-after
-decreases-loop-after g l = total g.Span.Span.kind l.board
+decreases-loop-after g l = total g.B.Span.Span.kind l.board

@@ -16,11 +16,11 @@ use Rattle.engine.proofs.sweep.sweep.Goals.{then-is_narrower, else-is_narrower, 
 pub loop-rule-init : goal.loop-rule-init
 loop-rule-init g c =
     let book = g.B.Book.meaning c.args.book.now in
-    (c.requires.full, c.requires.few, c.rules-rule-end.ensures, c.requires.waiting, ap (λ n. skim_from g.Span.Span.kind book n 0 c.args.board.now c.args.waiting.now c.args.start) (omega arith))
+    (c.requires.full, c.requires.few, c.rules-rule-end.ensures, c.requires.waiting, ap (λ n. skim_from g.B.Span.Span.kind book n 0 c.args.board.now c.args.waiting.now c.args.start) (omega arith))
 
 pub loop-rule-preserved-then-waiting-rule-eq0 : goal.loop-rule-preserved-then-waiting-rule-eq0
 loop-rule-preserved-then-waiting-rule-eq0 g c =
-    let kind = g.Span.Span.kind in
+    let kind = g.B.Span.Span.kind in
     let book = g.B.Book.meaning c.args.book.now in
     let l = c.loop-rule in
     let h : l.rule < book.rules = omega arith in
@@ -28,26 +28,26 @@ loop-rule-preserved-then-waiting-rule-eq0 g c =
 
 pub offset_bounds-board-place : goal.offset_bounds-board-place
 offset_bounds-board-place g c =
-    let kind = g.Span.Span.kind in
+    let kind = g.B.Span.Span.kind in
     let book = g.B.Book.meaning c.args.book.now in
     let h : c.scope_at-place.result < length c.loop-i.board = place_within kind book c.lawful.ensures c.loop-rule.rule c.loop-i.i c.scope_at-place.result c.loop-i.board (omega arith) (omega arith) c.scope_at-place.ensures c.loop-i.invariant.0 in
     search rules
 
 pub bounds-board-place : goal.bounds-board-place
 bounds-board-place g c =
-    let kind = g.Span.Span.kind in
+    let kind = g.B.Span.Span.kind in
     let book = g.B.Book.meaning c.args.book.now in
     place_within kind book c.lawful.ensures c.loop-rule.rule c.loop-i.i c.scope_at-place.result c.loop-i.board (omega arith) (omega arith) c.scope_at-place.ensures c.loop-i.invariant.0
 
 pub answer-new-requires : goal.answer-new-requires
 answer-new-requires g c =
-    let kind = g.Span.Span.kind in
+    let kind = g.B.Span.Span.kind in
     let book = g.B.Book.meaning c.args.book.now in
     record { rule = omega arith; place = place_counted kind book c.lawful.ensures c.loop-rule.rule c.loop-i.i c.scope_at-place.result c.loop-i.board (omega arith) (omega arith) c.scope_at-place.ensures c.loop-i.invariant.0; whole = c.loop-i.invariant.0.long }
 
 pub offset_bounds-board-place-then-is_narrower : goal.offset_bounds-board-place-then-is_narrower
 offset_bounds-board-place-then-is_narrower g c =
-    let kind = g.Span.Span.kind in
+    let kind = g.B.Span.Span.kind in
     let book = g.B.Book.meaning c.args.book.now in
     let h : c.scope_at-place.result < length c.loop-i.board = place_within kind book c.lawful.ensures c.loop-rule.rule c.loop-i.i c.scope_at-place.result c.loop-i.board (omega arith) (omega arith) c.scope_at-place.ensures c.loop-i.invariant.0 in
     let k : c.scope_at-place.result < length c.args.board.now = omega arith in
@@ -55,13 +55,13 @@ offset_bounds-board-place-then-is_narrower g c =
 
 pub bounds-board-place-then-is_narrower : goal.bounds-board-place-then-is_narrower
 bounds-board-place-then-is_narrower g c =
-    let kind = g.Span.Span.kind in
+    let kind = g.B.Span.Span.kind in
     let book = g.B.Book.meaning c.args.book.now in
     place_within kind book c.lawful.ensures c.loop-rule.rule c.loop-i.i c.scope_at-place.result c.loop-i.board (omega arith) (omega arith) c.scope_at-place.ensures c.loop-i.invariant.0
 
 pub loop-i-preserved : goal.loop-i-preserved
 loop-i-preserved g c =
-    let kind = g.Span.Span.kind in
+    let kind = g.B.Span.Span.kind in
     let book = g.B.Book.meaning c.args.book.now in
     let r = c.loop-rule.rule in
     let scope = (book.rule r).scope in
@@ -97,13 +97,13 @@ loop-i-preserved g c =
     ]
   where
     swap : {b b' : List g.row.B-Span.Denot} {w w' : List ℕ} {s s' : ℕ} → b ≡ b' → w ≡ w' → s ≡ s'
-        → tend g.Span.Span.kind (g.B.Book.meaning c.args.book.now) c.loop-rule.rule (drop (c.loop-i.i + 1) ((g.B.Book.meaning c.args.book.now).rule c.loop-rule.rule).scope) b w s
-        ≡ tend g.Span.Span.kind (g.B.Book.meaning c.args.book.now) c.loop-rule.rule (drop (c.loop-i.i + 1) ((g.B.Book.meaning c.args.book.now).rule c.loop-rule.rule).scope) b' w' s'
+        → tend g.B.Span.Span.kind (g.B.Book.meaning c.args.book.now) c.loop-rule.rule (drop (c.loop-i.i + 1) ((g.B.Book.meaning c.args.book.now).rule c.loop-rule.rule).scope) b w s
+        ≡ tend g.B.Span.Span.kind (g.B.Book.meaning c.args.book.now) c.loop-rule.rule (drop (c.loop-i.i + 1) ((g.B.Book.meaning c.args.book.now).rule c.loop-rule.rule).scope) b' w' s'
     swap e f h = cc
 
 pub loop-rule-preserved : goal.loop-rule-preserved
 loop-rule-preserved g c =
-    let kind = g.Span.Span.kind in
+    let kind = g.B.Span.Span.kind in
     let book = g.B.Book.meaning c.args.book.now in
     let r = c.loop-rule in
     let l = c.loop-i in
@@ -119,7 +119,7 @@ same_stop o a b e f = let same : a ≡ b = cc in ap (λ (x : EmptiedBy). halted 
 pub returns-in-Some : goal.returns-in-Some
 unfolding skim
 returns-in-Some g c =
-    let kind = g.Span.Span.kind in
+    let kind = g.B.Span.Span.kind in
     let book = g.B.Book.meaning c.args.book.now in
     let r = c.loop-rule in
     elim c.loop-rule-test.branch [
@@ -145,7 +145,7 @@ returns-in-Some g c =
 pub returns-in-None : goal.returns-in-None
 unfolding skim
 returns-in-None g c =
-    let kind = g.Span.Span.kind in
+    let kind = g.B.Span.Span.kind in
     let book = g.B.Book.meaning c.args.book.now in
     let r = c.loop-rule in
     elim c.loop-rule-test.branch [

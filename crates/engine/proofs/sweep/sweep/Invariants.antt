@@ -7,7 +7,7 @@ use Rattle.engine.proofs.sweep.sweep.Given as goal
 -- the places left of the rule, from here, come to what all of them come to from where its visit began
 abbrev pub invariant-loop-i : goal.invariant-loop-i
 invariant-loop-i g l =
-    let kind = g.Span.Span.kind in
+    let kind = g.B.Span.Span.kind in
     let book = g.B.Book.meaning l.book in
     let scope = (book.rule l.rule).scope in
     Full kind book.places l.board
@@ -19,7 +19,7 @@ invariant-loop-i g l =
 -- the rules left come to what all of them come to
 abbrev pub invariant-loop-rule : goal.invariant-loop-rule
 invariant-loop-rule g l =
-    let kind = g.Span.Span.kind in
+    let kind = g.B.Span.Span.kind in
     let book = g.B.Book.meaning l.book in
     Full kind book.places l.board
     × (total kind l.board + l.strikes ≤ 2000001 * 254)

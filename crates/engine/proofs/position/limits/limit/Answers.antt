@@ -10,7 +10,7 @@ use Rattle.engine.proofs.position.limits.limit.Goals as goal
 
 pub returns-in_err-check_limit : goal.returns-in_err-check_limit
 returns-in_err-check_limit g c keep =
-    let kind = g.Span.Span.kind in
+    let kind = g.B.Span.Span.kind in
     let book = g.B.Book.meaning c.args.book.now in
     let P = c.args.position.now in
     let B = c.args.board.now in
@@ -21,7 +21,7 @@ returns-in_err-check_limit g c keep =
 
 pub prepare-requires : goal.prepare-requires
 prepare-requires g c =
-    let kind = g.Span.Span.kind in
+    let kind = g.B.Span.Span.kind in
     let book = g.B.Book.meaning c.args.book.now in
     let P = c.args.position.now in
     let B = c.args.board.now in
@@ -32,7 +32,7 @@ prepare-requires g c =
 
 pub returns-in_err-prepare : goal.returns-in_err-prepare
 returns-in_err-prepare g c keep =
-    let kind = g.Span.Span.kind in
+    let kind = g.B.Span.Span.kind in
     let book = g.B.Book.meaning c.args.book.now in
     let P = c.args.position.now in
     let B = c.args.board.now in
@@ -45,7 +45,7 @@ returns-in_err-prepare g c keep =
 
 pub offset_bounds-board-place : goal.offset_bounds-board-place
 offset_bounds-board-place g c =
-    let kind = g.Span.Span.kind in
+    let kind = g.B.Span.Span.kind in
     let book = g.B.Book.meaning c.args.book.now in
     let P = c.args.position.now in
     let B = c.args.board.now in
@@ -57,7 +57,7 @@ offset_bounds-board-place g c =
 
 pub bounds-board-place : goal.bounds-board-place
 bounds-board-place g c =
-    let kind = g.Span.Span.kind in
+    let kind = g.B.Span.Span.kind in
     let book = g.B.Book.meaning c.args.book.now in
     let P = c.args.position.now in
     let B = c.args.board.now in
@@ -68,7 +68,7 @@ bounds-board-place g c =
 
 pub returns-then-is_empty : goal.returns-then-is_empty
 returns-then-is_empty g c keep =
-    let kind = g.Span.Span.kind in
+    let kind = g.B.Span.Span.kind in
     let book = g.B.Book.meaning c.args.book.now in
     let P = c.args.position.now in
     let B = c.args.board.now in
@@ -80,7 +80,7 @@ returns-then-is_empty g c keep =
 
 pub offset_bounds-working-place : goal.offset_bounds-working-place
 offset_bounds-working-place g c =
-    let kind = g.Span.Span.kind in
+    let kind = g.B.Span.Span.kind in
     let book = g.B.Book.meaning c.args.book.now in
     let P = c.args.position.now in
     let B = c.args.board.now in
@@ -92,7 +92,7 @@ offset_bounds-working-place g c =
 
 pub bounds-working-place : goal.bounds-working-place
 bounds-working-place g c =
-    let kind = g.Span.Span.kind in
+    let kind = g.B.Span.Span.kind in
     let book = g.B.Book.meaning c.args.book.now in
     let P = c.args.position.now in
     let B = c.args.board.now in
@@ -103,7 +103,7 @@ bounds-working-place g c =
 
 pub attempt-requires : goal.attempt-requires
 attempt-requires g c =
-    let kind = g.Span.Span.kind in
+    let kind = g.B.Span.Span.kind in
     let book = g.B.Book.meaning c.args.book.now in
     let P = c.args.position.now in
     let B = c.args.board.now in
@@ -120,7 +120,7 @@ attempt-requires g c =
 
 pub returns : goal.returns
 returns g c keep =
-    let kind = g.Span.Span.kind in
+    let kind = g.B.Span.Span.kind in
     let book = g.B.Book.meaning c.args.book.now in
     let P = c.args.position.now in
     let B = c.args.board.now in

@@ -12,7 +12,7 @@ use Rattle.engine.proofs.position.opening.opening.Goals as goal
 
 pub returns-then-board-places : goal.returns-then-board-places
 returns-then-board-places g c =
-    let kind = g.Span.Span.kind in
+    let kind = g.B.Span.Span.kind in
     let book = g.B.Book.meaning c.args.book.now in
     record {
       call = λ keep. let m = lent c.args.board.now c.args.working.now c.args.waiting.now keep in sym (open_short kind book m (short_board book.places book.rules m (omega arith)));
@@ -21,7 +21,7 @@ returns-then-board-places g c =
 
 pub returns-then-working-places : goal.returns-then-working-places
 returns-then-working-places g c =
-    let kind = g.Span.Span.kind in
+    let kind = g.B.Span.Span.kind in
     let book = g.B.Book.meaning c.args.book.now in
     record {
       call = λ keep. let m = lent c.args.board.now c.args.working.now c.args.waiting.now keep in sym (open_short kind book m (short_working book.places book.rules m (omega arith)));
@@ -30,7 +30,7 @@ returns-then-working-places g c =
 
 pub returns-then-waiting-rules : goal.returns-then-waiting-rules
 returns-then-waiting-rules g c =
-    let kind = g.Span.Span.kind in
+    let kind = g.B.Span.Span.kind in
     let book = g.B.Book.meaning c.args.book.now in
     record {
       call = λ keep. let m = lent c.args.board.now c.args.working.now c.args.waiting.now keep in sym (open_short kind book m (short_waiting book.places book.rules m (omega arith)));
@@ -39,7 +39,7 @@ returns-then-waiting-rules g c =
 
 pub returns-in_err-prepare : goal.returns-in_err-prepare
 returns-in_err-prepare g c =
-    let kind = g.Span.Span.kind in
+    let kind = g.B.Span.Span.kind in
     let book = g.B.Book.meaning c.args.book.now in
     let B = c.args.board.now in
     let W = c.args.working.now in
@@ -58,7 +58,7 @@ returns-in_err-prepare g c =
 
 pub attempt-requires : goal.attempt-requires
 attempt-requires g c =
-    let kind = g.Span.Span.kind in
+    let kind = g.B.Span.Span.kind in
     let book = g.B.Book.meaning c.args.book.now in
     let B = c.args.board.now in
     let W = c.args.working.now in
@@ -76,7 +76,7 @@ attempt-requires g c =
 
 pub returns-in_err-strikes : goal.returns-in_err-strikes
 returns-in_err-strikes g c =
-    let kind = g.Span.Span.kind in
+    let kind = g.B.Span.Span.kind in
     let book = g.B.Book.meaning c.args.book.now in
     let B = c.args.board.now in
     let W = c.args.working.now in
@@ -96,7 +96,7 @@ returns-in_err-strikes g c =
 
 pub returns : goal.returns
 returns g c =
-    let kind = g.Span.Span.kind in
+    let kind = g.B.Span.Span.kind in
     let book = g.B.Book.meaning c.args.book.now in
     let B = c.args.board.now in
     let W = c.args.working.now in

@@ -11,7 +11,7 @@ use Rattle.engine.proofs.position.settling.attempt.Goals as goal
 
 pub returns-in-Ok : goal.returns-in-Ok
 returns-in-Ok g c =
-    let kind = g.Span.Span.kind in
+    let kind = g.B.Span.Span.kind in
     let book = g.B.Book.meaning c.args.book.now in
     let n = c.places-n.result - 0 in
     let m = c.rules-rules.result - 0 in
@@ -34,7 +34,7 @@ returns-in-Ok g c =
 
 pub returns-in-Err : goal.returns-in-Err
 returns-in-Err g c =
-    let kind = g.Span.Span.kind in
+    let kind = g.B.Span.Span.kind in
     let book = g.B.Book.meaning c.args.book.now in
     let n = c.places-n.result - 0 in
     let m = c.rules-rules.result - 0 in

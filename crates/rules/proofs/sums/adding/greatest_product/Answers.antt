@@ -8,12 +8,12 @@ pub returns-then-coefficient-gt0 : goal.returns-then-coefficient-gt0
 unfolding greatest_product_of
 returns-then-coefficient-gt0 c =
     let a = c.args.coefficient in
-    product_back a c.ceiling.result c.ranges.coefficient (record { sfits = c.ceiling.type-inv }) ∙ ap (λ (z : ℤ). a *ℤ z) c.ceiling.ensures
+    product_back a c.ceiling.result c.ranges.coefficient (record { sfits = c.ceiling.type_inv }) ∙ ap (λ (z : ℤ). a *ℤ z) c.ceiling.ensures
     ∙ sym (cond-true _ _ _ (by_sign a true c.ranges.coefficient c.if-coefficient-gt0.true))
 
 pub returns-else-coefficient-gt0 : goal.returns-else-coefficient-gt0
 unfolding greatest_product_of
 returns-else-coefficient-gt0 c =
     let a = c.args.coefficient in
-    product_back a c.floor.result c.ranges.coefficient (record { sfits = c.floor.type-inv }) ∙ ap (λ (z : ℤ). a *ℤ z) c.floor.ensures
+    product_back a c.floor.result c.ranges.coefficient (record { sfits = c.floor.type_inv }) ∙ ap (λ (z : ℤ). a *ℤ z) c.floor.ensures
     ∙ sym (cond-false _ _ _ (by_sign a false c.ranges.coefficient c.if-coefficient-gt0.false))

@@ -9,4 +9,4 @@ pub invariant_of-result : goal.invariant_of-result
 invariant_of-result c =
     let ts = c.args.terms.now in
     let z = to_z w64 (of_z w64 c.args.bound) in
-    (subst (λ (l : List Term). T (leb (length ts) 16 && sum_test c.args.places z (take (length ts) l))) (sym c.pad.ensures) (made_ok c.args.places z ts (drop (length ts) (replicate 16 blank)) (sym c.is_sum.ensures ∙ c.if-not-is_sum.false)), tt)
+    record { ok = subst (λ (l : List Term). T (leb (length ts) 16 && sum_test c.args.places z (take (length ts) l))) (sym c.pad.ensures) (made_ok c.args.places z ts (drop (length ts) (replicate 16 blank)) (sym c.is_sum.ensures ∙ c.if-not-is_sum.false)) }
