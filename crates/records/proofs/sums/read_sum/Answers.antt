@@ -6,22 +6,16 @@ use Rattle.records.specs.Names.{named}
 use Rattle.records.specs.Sums.{terms_from}
 use Rattle.records.proofs.Summing.{sum_none, sum_some}
 use Rattle.records.proofs.sums.read_sum.Goals as goal
-use Rattle.records.proofs.sums.read_sum.Goals.{In-ok-terms}
-
--- the bound as it is passed on, and the terms as they are lent
-bound-is : (c : In-ok-terms) → to_z w64 (of_z w64 c.in_ok-bound.bound) ≡ c.in_ok-bound.bound
-bound-is c = let f : SFits w64 c.in_ok-bound.bound = search rules in to_z-of_z w64 c.in_ok-bound.bound f
-
-terms-read : (c : In-ok-terms) → Ok (take (c.in_ok-terms.terms.count - 0) c.in_ok-terms.terms.held) ≡ terms_from (named c.args.names) c.args.line 3 [] (fields_left c.args.terms)
-terms-read c = ap (λ n. Ok (take n c.in_ok-terms.terms.held)) (sub-zero _) ∙ c.in_ok-terms.ensures.terms
 
 pub unreachable-requires : goal.unreachable-requires
 unreachable-requires c =
-    let d = (goal.at.unreachable-requires c).In-ok-terms in
+    let fits : SFits w64 c.in_ok-bound.bound = search rules in
+    let lent : Ok (take (c.in_ok-terms.terms.count - 0) c.in_ok-terms.terms.held) ≡ terms_from (named c.args.names) c.args.line 3 [] (fields_left c.args.terms) = ap (λ n. Ok (take n c.in_ok-terms.terms.held)) (sub-zero _) ∙ c.in_ok-terms.ensures.terms in
     let l = length-take (c.in_ok-terms.terms.count - 0) c.in_ok-terms.terms.held in
-    sum_none (named c.args.names) c.args.line _ c.args.relation.now c.args.bound.now (fields_left c.args.terms) _ _ _ _ c.count.ensures (bound-is d) c.in_ok-relation.ensures c.in_ok-bound.ensures (terms-read d) c.requires.some (omega (arith, c.in_ok-terms.ensures.few)) c.in-None.ensures
+    sum_none (named c.args.names) c.args.line _ c.args.relation.now c.args.bound.now (fields_left c.args.terms) _ _ _ _ c.count.ensures (to_z-of_z w64 c.in_ok-bound.bound fits) c.in_ok-relation.ensures c.in_ok-bound.ensures lent c.requires.some (omega (arith, c.in_ok-terms.ensures.few)) c.in-None.ensures
 
 pub returns : goal.returns
 returns c =
-    let d = (goal.at.returns c).In-ok-terms in
-    sum_some (named c.args.names) c.args.line _ c.args.relation.now c.args.bound.now (fields_left c.args.terms) _ _ _ _ c.count.ensures (bound-is d) c.in_ok-relation.ensures c.in_ok-bound.ensures (terms-read d) c.in-Some.row c.in-Some.ensures
+    let fits : SFits w64 c.in_ok-bound.bound = search rules in
+    let lent : Ok (take (c.in_ok-terms.terms.count - 0) c.in_ok-terms.terms.held) ≡ terms_from (named c.args.names) c.args.line 3 [] (fields_left c.args.terms) = ap (λ n. Ok (take n c.in_ok-terms.terms.held)) (sub-zero _) ∙ c.in_ok-terms.ensures.terms in
+    sum_some (named c.args.names) c.args.line _ c.args.relation.now c.args.bound.now (fields_left c.args.terms) _ _ _ _ c.count.ensures (to_z-of_z w64 c.in_ok-bound.bound fits) c.in_ok-relation.ensures c.in_ok-bound.ensures lent c.in-Some.row c.in-Some.ensures
