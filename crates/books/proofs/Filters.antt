@@ -1,7 +1,7 @@
 -- A rule that keeps at each of its places the numbers that pass a test keeps the laws of rules. Assumes nothing.
-use Rattle.std.proofs.Common.{◌≡◌, ℕ, zero, suc, ◌<◌, ◌≤◌, Bool, true, false, cond, not, ◌&&◌, T, eqb, ◌⊎◌, ◌↔◌, List, [], ◌∷◌, length, ℤ, sym, refl, ap, ◌∙◌, subst, inl, inr, arith}
+use Rattle.std.proofs.Common.{◌≡◌, ℕ, ◌<◌, ◌≤◌, Bool, true, false, ◌&&◌, T, ◌⊎◌, List, [], ◌∷◌, length, ℤ, sym, refl, ap, ◌∙◌, subst, inl, inr, arith}
 use Rattle.std.proofs.lemmas.Bool.{cases_lt}
-use Rattle.spans.specs.Kind.{Kind, Within, Single}
+use Rattle.spans.specs.Kind.{Kind, Within}
 use Rattle.spans.specs.Bools.{both, join}
 use Rattle.spans.proofs.Sizes.{size_some, some_least, one_single}
 use Rattle.books.specs.Boards.{Among, Distinct, has, span_at, number_at, Full, Inside, On}

@@ -4,7 +4,7 @@ use Rattle.std.proofs.lemmas.Bool.{cond_both, ltb-true, ltb-false, leb-true, eqb
 use Rattle.spans.specs.Kind.{Kind}
 use Rattle.books.specs.declared.refusal.JoinRefusal.{JoinRefusal}
 use Rattle.books.specs.declared.refusal.JoinRefusal.TheVariants.{OtherPlaces, TooManyRules}
-use Rattle.books.specs.Meaning.{Meaning, Rule, Sound, Lawful}
+use Rattle.books.specs.Meaning.{Meaning, Sound, Lawful}
 use Rattle.books.specs.Joining.{join_checked, added, joined}
 
 module _ {S : Type 0} (kind : Kind S) (a b : Meaning S) (p : Lawful kind a) (q : Lawful kind b) where

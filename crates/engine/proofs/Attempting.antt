@@ -1,15 +1,14 @@
 -- What a try on the working board comes to. Assumes nothing.
-use Rattle.std.proofs.Common.{◌≡◌, ℕ, ◌-◌, ◌≤◌, List, ◌++◌, length, take, drop, replicate, sym, refl, ap, ◌∙◌, subst, ap₂, arith}
-use Rattle.std.proofs.lemmas.List.{take_at, drop_at, length-take-le, length-replicate}
+use Rattle.std.proofs.Common.{◌≡◌, ℕ, ◌≤◌, List, ◌++◌, length, drop, replicate, sym, ap}
+use Rattle.std.proofs.lemmas.List.{drop_at}
 use Rattle.spans.specs.Kind.{Kind}
 use Rattle.books.specs.Boards.{Full}
 use Rattle.books.specs.Meaning.{Meaning, Lawful}
 use Rattle.books.specs.Sweeps.{settle}
 use Rattle.engine.specs.declared.refusal.Refusal.TheVariants.{Emptied}
-use Rattle.engine.specs.Calls.{Verdict, denied, allowed, judged}
-use Rattle.engine.specs.Skims.{Skim, halted, onward, skimmed}
+use Rattle.engine.specs.Calls.{denied, allowed, judged}
+use Rattle.engine.specs.Skims.{halted, onward, skimmed}
 use Rattle.engine.specs.Waiting.{filled, none_wait}
-use Rattle.engine.specs.Lent.{verdict_board}
 use Rattle.engine.proofs.Passing.{settled_by, emptied_by}
 
 -- the entries of the rules cleared, whatever they were

@@ -1,14 +1,12 @@
 -- What opening and limit leave in the lent memory. Assumes nothing.
-use Rattle.std.proofs.Common.{◌≡◌, ℕ, ◌+◌, ◌-◌, ◌<◌, ◌≤◌, Bool, true, false, cond, eqb, ltb, List, [], ◌∷◌, ◌++◌, length, get_or, take, drop, set, replicate, Ok, Err, Result, sym, refl, ap, ◌∙◌, subst, ap₂, arith}
-use Rattle.std.proofs.lemmas.List.{take_at, drop_at, length-take-le, take-append-drop, set-append_left, length-set, length-replicate, get_or-take}
+use Rattle.std.proofs.Common.{◌≡◌, ℕ, ◌<◌, Bool, true, false, cond, eqb, ltb, List, ◌++◌, length, take, drop, set, replicate, Ok, Err, Result, sym, refl, ap, ◌∙◌, arith}
+use Rattle.std.proofs.lemmas.List.{take_at, drop_at, take-append-drop, set-append_left, length-set, length-replicate}
 use Rattle.std.proofs.lemmas.Bool.{ltb-false}
 use Rattle.spans.specs.Kind.{Kind}
-use Rattle.books.specs.Boards.{span_at, Full}
-use Rattle.books.specs.Meaning.{Meaning}
+use Rattle.books.specs.Boards.{Full}
 use Rattle.engine.specs.declared.refusal.Refusal.{Refusal}
 use Rattle.engine.specs.declared.refusal.Refusal.TheVariants.{EmptySpan}
-use Rattle.engine.specs.Limits.{Limit, shared, cut_one}
-use Rattle.engine.specs.Calls.{Memory, State, Reply, refuse, lowest_with, Verdict, denied, allowed, whole, laid, settled_on, shown, replied}
+use Rattle.engine.specs.Calls.{State, Reply, lowest_with, Verdict, denied, allowed, whole, laid, settled_on, shown, replied}
 use Rattle.engine.specs.Waiting.{filled, none_wait}
 use Rattle.engine.specs.Lent.{lent, empty_told, verdict_answer, verdict_board}
 use Rattle.engine.proofs.Boards.{some_size}

@@ -1,5 +1,5 @@
 -- The ways out of each call: by its tests, what it comes to. Assumes nothing.
-use Rattle.std.proofs.Common.{◌≡◌, ℕ, zero, suc, ◌+◌, ◌*◌, ◌<◌, ◌≤◌, Bool, true, false, not, ◌&&◌, eqb, leb, ◌⊎◌, List, [], ◌∷◌, length, get_or, ℤ, pos, Ok, Err, refl, ap, ◌∙◌, inl, inr, le_of_suc-le-suc, not-suc-le-zero, arith}
+use Rattle.std.proofs.Common.{◌≡◌, ℕ, suc, ◌+◌, ◌*◌, ◌<◌, ◌≤◌, true, false, ◌&&◌, eqb, leb, List, length, ℤ, pos, Ok, Err, ap, ◌∙◌}
 use Rattle.std.proofs.lemmas.List.{get_or_past}
 use Rattle.std.proofs.lemmas.Bool.{le-leb, lt-leb, lt-ltb, le-ltb, eq-eqb, and_left, and_right}
 use Rattle.spans.specs.Kind.{Kind}
@@ -7,11 +7,11 @@ use Rattle.spans.proofs.Sizes.{empty_zero}
 use Rattle.books.specs.Boards.{span_at, Full}
 use Rattle.books.specs.Meaning.{Meaning}
 use Rattle.books.specs.Sweeps.{Outcome, settle}
-use Rattle.engine.specs.declared.refusal.Refusal.TheVariants.{TooShort, OtherBook, NoSuchPlace, EmptySpan, NothingShared, KeepFull, NoMark, NotOneNumber}
+use Rattle.engine.specs.declared.refusal.Refusal.TheVariants.{TooShort, OtherBook, NoSuchPlace, NothingShared, KeepFull, NoMark}
 use Rattle.engine.specs.Limits.{Limit, shared, cut_one}
-use Rattle.engine.specs.Calls.{Memory, State, refuse, shown, lowest_with, Verdict, denied, judged, whole, open_verdict, limit_verdict, enough, replied, fresh, open_reply, limit_reply, holds, marked, mark_reply, back_to, back_reply, check_answer, lowest}
+use Rattle.engine.specs.Calls.{Memory, State, refuse, shown, Verdict, denied, judged, open_verdict, limit_verdict, enough, replied, fresh, open_reply, limit_reply, holds, marked, mark_reply, back_to, back_reply, check_answer, lowest}
 use Rattle.engine.specs.History.{handed}
-use Rattle.engine.proofs.Verdicts.{hole, whole_full}
+use Rattle.engine.proofs.Verdicts.{whole_full}
 
 -- ---- verdicts
 

@@ -1,6 +1,6 @@
 -- Sweeps keep boards full, and each strike takes a number away. Assumes nothing.
-use Rattle.std.proofs.Common.{◌≡◌, ℕ, zero, suc, ◌+◌, ◌-◌, ◌*◌, ◌<◌, ◌≤◌, Bool, true, false, cond, eqb, ltb, ◌⊎◌, List, [], ◌∷◌, length, get_or, set, ℤ, sym, refl, ap, ◌∙◌, subst, inl, inr, arith, length-set}
-use Rattle.std.proofs.lemmas.Bool.{ltb-true, eqb-false, eqb-true, ne_eqb, eq-eqb, cond-true, cond-false}
+use Rattle.std.proofs.Common.{◌≡◌, ℕ, zero, suc, ◌+◌, ◌*◌, ◌<◌, ◌≤◌, Bool, true, false, cond, eqb, ltb, List, [], ◌∷◌, length, get_or, set, ℤ, refl, ap, ◌∙◌, inl, inr, arith, length-set}
+use Rattle.std.proofs.lemmas.Bool.{ltb-true, eqb-false, ne_eqb, eq-eqb, cond-true, cond-false}
 use Rattle.spans.specs.Kind.{Kind}
 use Rattle.spans.specs.Numbers.{number, numbers, counted}
 use Rattle.spans.specs.Counts.{counted_none, counted_next}

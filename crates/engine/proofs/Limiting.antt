@@ -1,19 +1,19 @@
 -- The ways out of limit, in what the code holds. Assumes nothing.
-use Rattle.std.proofs.Common.{◌≡◌, ℕ, ◌<◌, ◌≤◌, Bool, true, false, cond, ◌&&◌, eqb, ltb, leb, List, [], ◌++◌, length, get_or, take, drop, set, Ok, Err, Result, sym, refl, ap, ◌∙◌, subst, ap₂, arith}
+use Rattle.std.proofs.Common.{◌≡◌, ℕ, ◌<◌, ◌≤◌, Bool, true, false, cond, ◌&&◌, eqb, ltb, leb, List, ◌++◌, length, get_or, take, drop, set, Ok, Err, Result, sym, refl, ap, ◌∙◌, subst, arith}
 use Rattle.std.proofs.lemmas.List.{length-take-le, length-set, get_or-take, get_or_default, set-append_left}
-use Rattle.std.proofs.lemmas.Bool.{cond-true, cond-false, eqb-true, ltb-true, ltb-false, and_parts, leb-true, eq-eqb, ne_eqb}
+use Rattle.std.proofs.lemmas.Bool.{eqb-true, ltb-true, ltb-false, and_parts, leb-true, eq-eqb, ne_eqb}
 use Rattle.spans.specs.Kind.{Kind}
-use Rattle.books.specs.Boards.{span_at, Full}
-use Rattle.books.specs.Meaning.{Meaning, Lawful}
+use Rattle.books.specs.Boards.{Full}
+use Rattle.books.specs.Meaning.{Meaning}
 use Rattle.books.specs.Sweeps.{settle}
 use Rattle.engine.specs.declared.refusal.Refusal.{Refusal}
 use Rattle.engine.specs.declared.refusal.Refusal.TheVariants.{TooShort, OtherBook, NoSuchPlace, NothingShared}
 use Rattle.engine.specs.declared.position.Position.{Position}
 use Rattle.engine.specs.Limits.{Limit, shared, cut_one}
-use Rattle.engine.specs.Calls.{Memory, State, Reply, refuse, Verdict, denied, judged, shown, whole, limit_verdict, enough, limit_reply, replied}
+use Rattle.engine.specs.Calls.{State, Reply, refuse, Verdict, denied, judged, shown, limit_verdict, enough, limit_reply, replied}
 use Rattle.engine.specs.Waiting.{none_wait}
 use Rattle.engine.specs.Lent.{lent, at, empty_told, verdict_answer, verdict_board, limit_checked}
-use Rattle.engine.proofs.Calling.{put, front_is, front_set, none_empty, empty_refuses, refused_prepared, tried}
+use Rattle.engine.proofs.Calling.{put, front_set, none_empty, empty_refuses, refused_prepared, tried}
 use Rattle.engine.proofs.Boards.{full_set}
 use Rattle.engine.proofs.Exits.{limit_short, limit_other, limit_nowhere, limit_at, limit_shares_nothing, limit_settles}
 

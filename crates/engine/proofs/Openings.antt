@@ -1,12 +1,12 @@
 -- The ways out of opening, in what the code holds. Assumes nothing.
-use Rattle.std.proofs.Common.{◌≡◌, ℕ, ◌≤◌, true, false, List, ◌++◌, length, take, drop, Ok, Err, Result, sym, refl, ap, ◌∙◌, subst, arith}
+use Rattle.std.proofs.Common.{◌≡◌, ℕ, ◌≤◌, List, ◌++◌, length, take, drop, Ok, Err, Result, sym, ap, ◌∙◌, subst}
 use Rattle.std.proofs.lemmas.List.{length-take-le}
 use Rattle.spans.specs.Kind.{Kind}
 use Rattle.books.specs.Boards.{Full}
-use Rattle.books.specs.Meaning.{Meaning, Lawful}
+use Rattle.books.specs.Meaning.{Meaning}
 use Rattle.books.specs.Sweeps.{settle}
 use Rattle.engine.specs.declared.refusal.Refusal.{Refusal}
-use Rattle.engine.specs.Calls.{Memory, State, Reply, Verdict, denied, judged, open_verdict, fresh, open_reply}
+use Rattle.engine.specs.Calls.{State, Reply, denied, judged, open_verdict, fresh, open_reply}
 use Rattle.engine.specs.Waiting.{none_wait}
 use Rattle.engine.specs.Lent.{lent, empty_told, verdict_answer, verdict_board}
 use Rattle.engine.proofs.Calling.{put, front_is, none_empty, empty_refuses, refused_prepared, tried}

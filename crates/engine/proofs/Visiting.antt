@@ -1,16 +1,13 @@
 -- What each step of a sweep's code comes to. Assumes nothing.
-use Rattle.std.proofs.Common.{◌≡◌, ℕ, zero, suc, ◌+◌, ◌-◌, ◌*◌, ◌<◌, ◌≤◌, Bool, true, false, cond, eqb, ltb, ◌⊎◌, List, [], ◌∷◌, length, get_or, drop, set, sym, refl, ap, ◌∙◌, subst, inl, inr, add-one, arith, length-set, drop-cons}
+use Rattle.std.proofs.Common.{◌≡◌, ℕ, suc, ◌+◌, ◌-◌, ◌<◌, ◌≤◌, cond, eqb, ltb, List, ◌∷◌, length, get_or, drop, set, sym, ap, ◌∙◌, subst, add-one, arith, drop-cons}
 use lib.Seq.{drop-length}
-use Rattle.std.proofs.lemmas.List.{get_or_default, get_or-set_same, get_or-set_other}
-use Rattle.std.proofs.lemmas.Bool.{cond-true, cond-false, lt-ltb, le-ltb, eq-eqb, ne_eqb, cases_eq}
+use Rattle.std.proofs.lemmas.Bool.{cond-true, cond-false, lt-ltb, le-ltb, eq-eqb, ne_eqb}
 use Rattle.spans.specs.Kind.{Kind}
-use Rattle.spans.proofs.Sizes.{size_within}
 use Rattle.books.specs.Boards.{span_at, Full}
-use Rattle.books.specs.Meaning.{Meaning, Rule, Sound, Lawful}
-use Rattle.books.specs.Sweeps.{total}
+use Rattle.books.specs.Meaning.{Meaning, Lawful}
 use Rattle.books.specs.Waking.{woken}
 use Rattle.books.proofs.Places.{among_at}
-use Rattle.engine.specs.Skims.{Skim, halted, onward, on_then, tend, tend_rule, skim_from, skim}
+use Rattle.engine.specs.Skims.{halted, onward, on_then, tend, tend_rule, skim_from}
 
 module _ {S : Type 0} (kind : Kind S) where
   module _ (book : Meaning S) where

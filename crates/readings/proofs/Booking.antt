@@ -21,7 +21,7 @@ use Rattle.rules.specs.SumBooks.{rule_none, row_rule, rule_at, sum_book_of}
 use Rattle.rules.specs.SumRows.{terms_of}
 use Rattle.rules.specs.Sums.{sum_rule}
 use Rattle.records.specs.Between.{tokens_shown, choice_shown}
-use Rattle.records.specs.Rules.{Rule, Row, sum, pair, apart}
+use Rattle.records.specs.Rules.{Rule, Row, sum, apart}
 use Rattle.records.specs.Sums.{sum_shown}
 use Rattle.readings.specs.Books.{scope_of, listed, obeys_rule, Means, BookLaw}
 use Rattle.readings.specs.Laws.{row_for}

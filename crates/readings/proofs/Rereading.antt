@@ -3,22 +3,19 @@ use Rattle.std.proofs.Common.{◌≡◌, ℕ, ◌+◌, ◌<◌, ◌≤◌, Bool,
 use Rattle.std.proofs.lemmas.List.{append-nil, append_assoc, length-append, length_push}
 use Rattle.std.proofs.lemmas.Bool.{cond-true, cond-false, le-ltb, and_parts, and_from}
 use Rattle.std.specs.List.{AllByRecursion as All}
-use Rattle.text.specs.Fields.{fields_of}
 use Rattle.text.specs.Lines.{Lined}
 use Rattle.records.specs.declared.fault.SheetFault.{SheetFault}
 use Rattle.records.specs.declared.kind.SpanKind.{SpanKind}
 use Rattle.records.specs.declared.kind.SheetKind.{SheetKind}
 use Rattle.records.specs.declared.kind.SheetKind.TheVariants.{Game, Expansion}
-use Rattle.records.specs.Words.{word_of}
-use Rattle.records.specs.Records.{head}
 use Rattle.records.specs.Places.{Place, place_line}
 use Rattle.records.specs.Rules.{Rule, Row}
 use Rattle.records.specs.RuleLines.{rule_line_of}
 use Rattle.records.specs.Titles.{title_checked}
 use Rattle.readings.specs.Lines.{Line, whole, long, unended, lines_of}
-use Rattle.readings.specs.Readings.{Reading, rule_of, rules_from, is_place_word, is_place_line, place_of, places_from, place_some, titled, place_room, rule_room, sized, game_read, expansion_read}
+use Rattle.readings.specs.Readings.{Reading, rule_of, rules_from, is_place_line, place_of, places_from, place_some, titled, place_room, rule_room, sized, game_read, expansion_read}
 use Rattle.readings.specs.Written.{title_written, place_written, rule_written, game_lines, expansion_lines}
-use Rattle.readings.specs.Proper.{is_place, are_places, is_rule}
+use Rattle.readings.specs.Proper.{is_place, are_places}
 use Rattle.readings.specs.Laws.{row_for, Reads, GameOf, ExpansionOf}
 use Rattle.readings.proofs.Spelled.{title_from, title_to, place_from, place_to, rule_from, rule_to}
 use Rattle.readings.proofs.Lining.{lined_from, lined_to}

@@ -1,6 +1,6 @@
 -- Tables filled entry by entry. Assumes nothing.
-use Rattle.std.proofs.Common.{◌≡◌, ℕ, suc, ◌+◌, ◌<◌, ◌≤◌, min, Bool, true, false, cond, ltb, ◌⊎◌, List, [], ◌∷◌, ◌++◌, map, length, take, drop, set, Some, None, Ok, Err, Option, Result, sym, refl, ap, ◌∙◌, ⊎_elim, arith}
-use Rattle.std.proofs.lemmas.List.{take-append-drop, length-take-le, drop-set-lt, take_more_set, drop-drop}
+use Rattle.std.proofs.Common.{◌≡◌, ℕ, ◌+◌, ◌<◌, ◌≤◌, List, [], ◌∷◌, ◌++◌, length, take, drop, set, Some, None, Ok, Err, Option, Result, sym, refl, ap, ◌∙◌, arith}
+use Rattle.std.proofs.lemmas.List.{take-append-drop, length-take-le, drop-set-lt, drop-drop}
 use Rattle.std.proofs.lemmas.Bool.{cond-true, cond-false, lt-ltb, le-ltb}
 use Rattle.text.specs.declared.fault.FieldFault.{FieldFault}
 use Rattle.records.specs.declared.fault.SheetFault.{SheetFault}
@@ -11,7 +11,7 @@ use Rattle.records.specs.Rules.{Row}
 use Rattle.records.specs.RuleLines.{rule_line_of}
 use Rattle.records.specs.Steps.{then}
 use Rattle.readings.specs.Lines.{Line, whole, long, unended, next_of, lines_after, read_after, raised}
-use Rattle.readings.specs.Readings.{Reading, stopped, fits, rules_from, rule_room}
+use Rattle.readings.specs.Readings.{Reading, stopped, fits, rules_from}
 use Rattle.readings.specs.Tables.{laid, answered}
 
 -- a table whose first entries are filled, and whose others are as they were, is those entries laid over what it was

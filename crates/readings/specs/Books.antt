@@ -1,5 +1,5 @@
 -- What the books and boards of sheets mean. Assumes nothing.
-use Rattle.std.specs.Prelude.{◌≡◌, ℕ, ◌<◌, ◌≤◌, Bool, true, false, not, ◌&&◌, ◌||◌, List, [], ◌∷◌, map, length, get_or, drop, ℤ, pos, slice_index_or}
+use Rattle.std.specs.Prelude.{◌≡◌, ℕ, ◌<◌, ◌≤◌, Bool, false, not, ◌&&◌, ◌||◌, List, [], ◌∷◌, map, length, get_or, drop, ℤ, pos, slice_index_or}
 use Rattle.spans.specs.Kind.{Kind}
 use Rattle.books.specs.Boards.{span_at, number_at}
 use Rattle.books.specs.Meaning.{Meaning}
@@ -7,7 +7,6 @@ use Rattle.rules.specs.ChoiceRules.{same_number}
 use Rattle.rules.specs.SumTerms.{place_of}
 use Rattle.rules.specs.Sums.{sum_of, stands}
 use Rattle.records.specs.declared.kind.SpanKind.{SpanKind}
-use Rattle.records.specs.declared.places.Opening.{Opening}
 use Rattle.records.specs.Places.{Place}
 use Rattle.records.specs.Rules as rules
 use Rattle.records.specs.Rules.{Rule, Row, sum, pair, apart}

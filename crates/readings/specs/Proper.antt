@@ -1,6 +1,5 @@
 -- Which places and rules a sheet may have. Assumes nothing.
-use Rattle.std.specs.Prelude.{◌≡◌, ℕ, ◌≤◌, Bool, true, false, not, ◌&&◌, List, [], ◌∷◌, ◌++◌, length, ℤ, nat_le}
-use Rattle.std.specs.List.{AllByRecursion as All}
+use Rattle.std.specs.Prelude.{ℕ, Bool, true, false, not, ◌&&◌, List, [], ◌∷◌, ◌++◌, length, nat_le}
 use Rattle.spans.specs.Bounds.{bounded}
 use Rattle.rules.specs.ChoiceTests.{are_tokens, two_places_test, is_pair_row}
 use Rattle.rules.specs.SumTerms.{sum_test}

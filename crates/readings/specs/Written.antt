@@ -1,10 +1,9 @@
 -- Records written out as lines. Assumes nothing.
-use Rattle.std.specs.Prelude.{ℕ, List, [], ◌∷◌, ◌++◌, map, ℤ, pos, codes, slice_index_or}
+use Rattle.std.specs.Prelude.{ℕ, List, [], ◌∷◌, ◌++◌, map, pos, codes, slice_index_or}
 use Rattle.std.specs.Fmt.{signed_decimal}
 use Rattle.rules.specs.declared.sums.term.Relation.{Relation}
 use Rattle.rules.specs.declared.sums.term.Relation.TheVariants.{AtMost, AtLeast, Equal}
 use Rattle.rules.specs.declared.sums.term.Term.{Term}
-use Rattle.text.specs.Lines.{ended}
 use Rattle.text.specs.Parts.{joined_by}
 use Rattle.records.specs.declared.kind.SpanKind.{SpanKind}
 use Rattle.records.specs.declared.kind.SpanKind.TheVariants.{Amounts, Choices}

@@ -1,11 +1,10 @@
 -- Numbers that are granted lie in their range. Assumes nothing.
-use Rattle.std.proofs.Common.{◌≡◌, ℕ, Bool, true, false, cond, ◌&&◌, T, List, ℤ, pos, negsuc, nat_abs, ◌≤ℤ◌, Some, None, Ok, Err, Option, Result, sym, refl, ap, ◌∙◌, subst, arith, w8, w32, w64, Fits, SFits, to_z, of_z}
+use Rattle.std.proofs.Common.{◌≡◌, ℕ, Bool, true, false, cond, ◌&&◌, T, List, ℤ, pos, negsuc, nat_abs, ◌≤ℤ◌, Some, None, Ok, Err, Option, sym, refl, ap, ◌∙◌, subst, arith, w8, w32, w64, Fits, SFits, to_z, of_z}
 use borrow.Author.Differences.{ints}
 use lib.Signed.{le_z, le_z_yes, non_neg}
 use Rattle.records.specs.Numbers.{size}
 use Rattle.std.proofs.lemmas.Bool.{and_parts}
 use Rattle.text.specs.declared.fault.At.{At}
-use Rattle.text.specs.declared.fault.FieldFault.{FieldFault}
 use Rattle.text.specs.declared.fault.FieldFault.TheVariants.{OutOfRange}
 use Rattle.text.specs.Numbers.{within, number_of, number_in}
 use Rattle.std.proofs.lemmas.Int.{to_z-of_z}

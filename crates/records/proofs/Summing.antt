@@ -1,8 +1,8 @@
 -- The terms that are read are terms of a sum. Assumes nothing.
-use Rattle.std.proofs.Common.{◌≡◌, ℕ, suc, ◌+◌, ◌<◌, ◌≤◌, Bool, true, false, cond, not, ◌&&◌, ◌||◌, T, eqb, ltb, leb, List, [], ◌∷◌, ◌++◌, map, length, ℤ, pos, negsuc, neg_ℤ, ◌≤ℤ◌, Some, Ok, Err, sym, refl, ap, ◌∙◌, subst, ap₂, ⊎_elim, arith}
+use Rattle.std.proofs.Common.{◌≡◌, ℕ, suc, ◌+◌, ◌<◌, ◌≤◌, Bool, true, false, cond, not, ◌&&◌, ◌||◌, eqb, ltb, leb, List, [], ◌∷◌, ◌++◌, map, length, ℤ, pos, negsuc, neg_ℤ, Some, Ok, Err, sym, refl, ap, ◌∙◌, subst, ap₂, arith}
 use borrow.Author.Differences.{ints}
-use lib.Signed.{le_z, lt_z}
-use Rattle.std.proofs.lemmas.Bool.{and_from, and_parts, or_from, or_parts, not_from_false, not-false, not-true, eqb-true, eqb-false, eq-eqb, ne_eqb, lt-ltb, le-leb, both_ways}
+use lib.Signed.{le_z}
+use Rattle.std.proofs.lemmas.Bool.{and_from, and_parts, or_from, or_parts, not_from_false, not-true, eqb-false, ne_eqb, lt-ltb, le-leb, both_ways}
 use Rattle.books.specs.Boards.{has}
 use Rattle.rules.specs.declared.sums.term.Term.{Term}
 use Rattle.rules.specs.SumTerms.{is_coefficient, bound_test, term_test, place_of, terms_test, sum_test}
@@ -19,7 +19,7 @@ use Rattle.records.specs.Names.{position_after, known, known_place}
 use Rattle.records.specs.Steps.{at, then, unless_fault}
 use Rattle.records.specs.Rules.{Row, sum}
 use Rattle.records.specs.Sums.{is_zero, relation_at, coefficient_at, term_of, terms_from, sum_fields, sum_shown}
-use Rattle.records.proofs.Going.{Passed, then_ok, raised_ok, passed_false, known_ok}
+use Rattle.records.proofs.Going.{then_ok, raised_ok, passed_false, known_ok}
 use Rattle.records.proofs.Taking.{twos_keep, twos_some}
 use Rattle.records.proofs.Ranging.{Between, within_range}
 

@@ -1,6 +1,5 @@
 -- Places, as place lines declare them. Assumes nothing.
 use Rattle.std.specs.Prelude.{ℕ, Bool, false, cond, ◌||◌, List, [], ◌∷◌, ℤ, pos, negsuc, Some, None, Ok, Err, Option, Result}
-use Rattle.text.specs.declared.fault.At.{At}
 use Rattle.text.specs.declared.fault.FieldFault.{FieldFault}
 use Rattle.text.specs.Fields.{fields_of, others}
 use Rattle.text.specs.Names.{name_at, same_name}

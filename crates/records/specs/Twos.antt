@@ -1,5 +1,5 @@
 -- Fields read two by two. Assumes nothing.
-use Rattle.std.specs.Prelude.{ℕ, ◌+◌, List, [], ◌∷◌, ◌++◌, Ok, Err, Result}
+use Rattle.std.specs.Prelude.{ℕ, ◌+◌, List, [], ◌∷◌, ◌++◌, Ok, Result}
 use Rattle.records.specs.Steps.{then}
 
 -- what fields come to, two by two, from the field f on, behind what is read already; a last field alone is followed by an empty one

@@ -1,5 +1,5 @@
 -- The words of lines, and how many fields a line with a word has. Assumes nothing.
-use Rattle.std.specs.Prelude.{ℕ, ◌%◌, Bool, cond, ◌&&◌, ◌||◌, List, Some, None, codes, Option, ◌==◌, nat_le}
+use Rattle.std.specs.Prelude.{ℕ, ◌%◌, Bool, cond, ◌&&◌, List, Some, None, codes, Option, ◌==◌, nat_le}
 use Rattle.std.specs.Str.{bytes_eq}
 use Rattle.records.specs.declared.kind.SpanKind.{SpanKind}
 use Rattle.records.specs.declared.kind.SpanKind.TheVariants.{Amounts, Choices}

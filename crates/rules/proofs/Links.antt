@@ -1,5 +1,5 @@
 -- Rules between two places keep the laws, where a token may stay exactly if it has a partner. Assumes nothing.
-use Rattle.std.proofs.Common.{◌≡◌, ℕ, ◌<◌, ◌≤◌, Bool, true, false, cond, ◌&&◌, ◌||◌, T, eqb, ◌⊎◌, ◌↔◌, List, [], ◌∷◌, ℤ, pos, negsuc, sym, refl, ap, ◌∙◌, subst, inl, inr, arith, lit≤}
+use Rattle.std.proofs.Common.{◌≡◌, ℕ, ◌<◌, Bool, true, false, cond, ◌&&◌, T, eqb, ◌⊎◌, ◌↔◌, List, ℤ, pos, negsuc, sym, refl, ap, ◌∙◌, subst, inl, inr, arith, lit≤}
 use Rattle.std.proofs.lemmas.Bool.{eq-eqb, ne_eqb, or_from, or_left, or_right, cond-true, cond-false}
 use Rattle.spans.specs.Bools.{both, join, alike}
 use Rattle.spans.specs.Choices.{choice_admits, choice_size}

@@ -1,5 +1,5 @@
 -- In pair rules and apart rules a token may stay exactly if it has a partner. Assumes nothing.
-use Rattle.std.proofs.Common.{◌≡◌, ℕ, ◌<◌, ◌≤◌, Bool, true, false, not, ◌&&◌, ◌||◌, T, eqb, ◌⊎◌, List, [], ◌∷◌, ℤ, pos, negsuc, sym, refl, ap, ◌∙◌, subst, inl, inr, ⊎_elim, arith, eqb→eq}
+use Rattle.std.proofs.Common.{◌≡◌, ℕ, ◌<◌, ◌≤◌, Bool, true, false, not, ◌||◌, T, eqb, ◌⊎◌, List, [], ◌∷◌, ℤ, pos, negsuc, sym, ap, ◌∙◌, subst, inl, inr, ⊎_elim, arith, eqb→eq}
 use borrow.Author.Differences.{ints}
 use lib.Count.{count_trailing_zeros}
 use lib.Dec.{eqb_refl}

@@ -1,8 +1,8 @@
 -- The positions worked through: one computed test over their list, and what it tells of each. Assumes nothing.
-use Rattle.std.proofs.Common.{◌≡◌, ℕ, Bool, true, false, ◌&&◌, T, eqb, ◌⊎◌, List, [], ◌∷◌, ℤ, ◌≤ℤ◌, sym, refl, ap, subst, ap₂, inl, inr, arith, eqb→eq}
+use Rattle.std.proofs.Common.{◌≡◌, ℕ, Bool, true, false, ◌&&◌, T, eqb, List, [], ◌∷◌, sym, refl, subst, ap₂, inl, inr, arith, eqb→eq}
 use borrow.Author.Differences.{ints}
 use lib.Count.{ones, ones_in}
-use lib.Signed.{le_z, le_z_yes}
+use lib.Signed.{le_z}
 use Rattle.spans.specs.Bools.{both}
 use Rattle.spans.specs.Masks.{bit}
 use Rattle.spans.specs.AmountKind.{amounts}

@@ -10,10 +10,7 @@ use Rattle.books.specs.Meaning.{Meaning}
 use Rattle.books.specs.Sweeps.{Outcome, emptied, left, settle}
 use Rattle.rules.specs.declared.sums.term.Term.{Term}
 use Rattle.rules.specs.declared.sums.term.Relation.TheVariants.{AtMost, Equal}
-use Rattle.rules.specs.declared.sums.row.SumRow.{SumRow}
 use Rattle.rules.specs.declared.choices.token.TokenPair.{TokenPair}
-use Rattle.rules.specs.declared.choices.pair.PairRow.{PairRow}
-use Rattle.rules.specs.declared.choices.apart.ApartRow.{ApartRow}
 use Rattle.rules.specs.declared.choices.row.ChoiceRow.TheVariants.{Pair, Apart}
 use Rattle.rules.specs.SumRows.{padded}
 use Rattle.rules.specs.SumBooks.{sum_book_of}

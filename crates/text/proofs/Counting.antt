@@ -1,12 +1,12 @@
 -- A sheet's lines: what a reader's calls come to, and the law of lines.
-use Rattle.std.proofs.Common.{◌≡◌, ℕ, suc, ◌+◌, ◌<◌, ◌≤◌, Bool, true, false, cond, eqb, ltb, List, [], ◌∷◌, ◌++◌, length, Some, None, Ok, Err, Option, Result, sym, refl, ap, ◌∙◌, subst, add_assoc, zero-add, arith}
+use Rattle.std.proofs.Common.{◌≡◌, ℕ, suc, ◌+◌, ◌<◌, ◌≤◌, Bool, true, false, cond, ltb, List, [], ◌∷◌, ◌++◌, length, Some, None, Ok, Err, Option, Result, sym, refl, ap, ◌∙◌, subst, zero-add, arith}
 use Rattle.std.proofs.lemmas.List.{length-append}
-use Rattle.std.proofs.lemmas.Bool.{cond-true, cond-false, cond_both, ltb-true, ltb-false, le-ltb}
+use Rattle.std.proofs.lemmas.Bool.{cond-false, ltb-false, le-ltb}
 use Rattle.std.specs.List.{AllByRecursion as All}
 use Rattle.text.specs.declared.fault.TextFault.{TextFault}
 use Rattle.text.specs.declared.fault.TextFault.TheVariants.{TooBig, TooLong}
 use Rattle.text.specs.Parts.{cut_at, joined_by, led, Lacks, Parted}
-use Rattle.text.specs.Lines.{Step, stay, end_step, step_of, line_next, ending, infront, line_then, lines_in, sheet_lines, counted, ended, Lined, LinesLaw}
+use Rattle.text.specs.Lines.{stay, end_step, step_of, line_next, ending, infront, line_then, lines_in, sheet_lines, counted, ended, Lined, LinesLaw}
 use Rattle.text.proofs.Cutting.{cut_joined, cut_lacks, joined_cut, cut_some, parts_law}
 
 -- the lines that are left, by what the next call answers

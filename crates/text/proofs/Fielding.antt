@@ -1,10 +1,10 @@
 -- One field handed out, and the count of fields.
-use Rattle.std.proofs.Common.{◌≡◌, ℕ, suc, ◌+◌, ◌-◌, ◌<◌, ◌≤◌, Bool, true, false, cond, eqb, List, [], ◌∷◌, length, get_or, take, drop, Some, None, Option, sym, refl, ap, ◌∙◌, add-one, arith}
+use Rattle.std.proofs.Common.{◌≡◌, ℕ, suc, ◌+◌, ◌-◌, ◌<◌, ◌≤◌, List, [], ◌∷◌, length, get_or, take, drop, sym, ap, ◌∙◌, add-one}
 use native.Mathlib.Nat.{sub-zero}
 use Rattle.std.proofs.lemmas.List.{take_rest, drop-drop, at_drop_more}
 use Rattle.std.proofs.lemmas.Bool.{cond-true, cond-false, eq-eqb, ne_eqb}
 use Rattle.text.specs.Parts.{before, grown, cut_at}
-use Rattle.text.specs.Fields.{fields_of, first, others}
+use Rattle.text.specs.Fields.{fields_of}
 use Rattle.text.proofs.Cutting.{cut_some, cut_found, cut_whole}
 
 module _ (rest : List ℕ) (n : ℕ) (is : n ≡ length (before 9 rest)) where

@@ -1,11 +1,11 @@
 -- The four ways of one call of the line reader.
-use Rattle.std.proofs.Common.{◌≡◌, ℕ, suc, ◌+◌, ◌-◌, ◌<◌, ◌≤◌, Bool, true, false, cond, ltb, List, [], ◌∷◌, length, take, drop, Some, None, Ok, Err, sym, refl, ap, ◌∙◌, ⊎_elim, add-one, arith}
+use Rattle.std.proofs.Common.{◌≡◌, ℕ, ◌+◌, ◌-◌, ◌<◌, ◌≤◌, cond, ltb, List, [], ◌∷◌, length, take, drop, Some, None, Ok, Err, sym, refl, ap, ◌∙◌, ⊎_elim, add-one, arith}
 use native.Mathlib.Nat.{sub-zero}
 use Rattle.std.proofs.lemmas.List.{take_rest, drop-drop, length-take-le, nil_from_length}
 use Rattle.std.proofs.lemmas.Bool.{cond-true, cond-false, lt-ltb, le-ltb, cases_lt}
 use Rattle.text.specs.declared.fault.TextFault.TheVariants.{Unended, TooLong}
 use Rattle.text.specs.Parts.{before, cut_at, joined_by}
-use Rattle.text.specs.Lines.{Step, stay, end_step, step_of, line_next}
+use Rattle.text.specs.Lines.{stay, end_step, step_of, line_next}
 use Rattle.text.proofs.Cutting.{before_le, cut_some, cut_found, cut_whole, cut_joined}
 
 module _ (read : ℕ) (bs : List ℕ) where

@@ -1,6 +1,5 @@
 -- What is told of each fault.
 use Rattle.std.specs.Prelude.{ℕ}
-use Rattle.text.specs.declared.fault.At.{At}
 use Rattle.text.specs.declared.fault.TextFault.{TextFault}
 use Rattle.text.specs.declared.fault.TextFault.TheVariants.{TooBig, Unended, TooLong}
 use Rattle.text.specs.declared.fault.FieldFault.{FieldFault}

@@ -1,11 +1,10 @@
-use Rattle.std.proofs.Common.{◌≡◌, ℕ, zero, suc, ◌+◌, ◌*◌, ◌<◌, ◌≤◌, List, length, Err, sym, refl, ap, ◌∙◌, subst, arith}
+use Rattle.std.proofs.Common.{◌≡◌, ℕ, zero, suc, ◌+◌, ◌<◌, List, length, Err, sym, refl, ap, ◌∙◌, subst, arith}
 use Rattle.std.proofs.lemmas.Result.{err_from_is_err_and}
 use Rattle.spans.specs.Kind.{Kind}
-use Rattle.books.specs.Boards.{Full}
 use Rattle.books.specs.Meaning.{Meaning, Lawful}
 use Rattle.books.specs.Sweeps.{total}
 use Rattle.engine.specs.Lent.{skim_told}
-use Rattle.engine.specs.Skims.{Skim, halted, onward, skim, skims, skimmed}
+use Rattle.engine.specs.Skims.{halted, onward, skim, skims, skimmed}
 use Rattle.engine.specs.Waiting.{filled}
 use Rattle.engine.proofs.Falling.{Kept, Keeps, total_most, skim_keeps, skims_stop, skims_end, skims_more}
 use Rattle.engine.proofs.Waits.{length_filled}

@@ -1,4 +1,4 @@
-use Rattle.std.proofs.Common.{◌≡◌, ◌≤◌, map, length, Ok, ◌∙◌, ap₂, rules}
+use Rattle.std.proofs.Common.{◌≡◌, ◌≤◌, length, Ok, ◌∙◌, ap₂, rules}
 use Rattle.std.proofs.lemmas.List.{length-map}
 use Rattle.records.specs.Places.{place_shown}
 use Rattle.readings.proofs.SheetLaws.{game_law}

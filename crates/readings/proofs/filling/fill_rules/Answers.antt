@@ -1,10 +1,10 @@
-use Rattle.std.proofs.Common.{◌≡◌, ℕ, ◌+◌, ◌<◌, ◌≤◌, List, ◌∷◌, map, length, take, drop, Ok, Err, sym, ap, ◌∙◌, ⊎_elim, arith, length-set}
+use Rattle.std.proofs.Common.{◌≡◌, ◌+◌, ◌<◌, ◌≤◌, ◌∷◌, map, length, take, drop, Ok, Err, sym, ap, ◌∙◌, ⊎_elim, arith, length-set}
 use Rattle.std.proofs.lemmas.List.{map-set, length-map, take_more_set}
 use Rattle.std.proofs.lemmas.Result.{err_from_is_err_and, IfOk-from_err}
 use Rattle.text.specs.Lines.{shown_option}
 use Rattle.records.specs.declared.fault.SheetFault.TheVariants.{Full}
 use Rattle.records.specs.Names.{named}
-use Rattle.readings.specs.Lines.{Line, whole, lines_left}
+use Rattle.readings.specs.Lines.{whole, lines_left}
 use Rattle.readings.specs.Readings.{rule_room}
 use Rattle.readings.specs.Tables.{rules_ahead}
 use Rattle.readings.proofs.Turning.{Held, NextLine, next_whole, next_none, rest_more, rules_end, rules_text, rule_refused, rules_full, rule_added}

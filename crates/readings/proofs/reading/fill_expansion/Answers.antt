@@ -1,7 +1,6 @@
-use Rattle.std.proofs.Common.{◌≡◌, map, length, Err, refl, ap, ◌∙◌}
+use Rattle.std.proofs.Common.{map, length, Err, refl, ap, ◌∙◌}
 use Rattle.std.proofs.lemmas.Result.{err_from_is_err_and}
 use Rattle.records.specs.Names.{named}
-use Rattle.readings.specs.Readings.{expansion_read, stopped}
 use Rattle.readings.specs.Tables.{rules_ahead}
 use Rattle.readings.proofs.Beginning.{expansion_begun, expansion_not_begun, rules_told}
 use Rattle.readings.proofs.reading.fill_expansion.Goals as goal

@@ -1,5 +1,4 @@
 use Rattle.std.proofs.lemmas.Bool.{both_ways}
-use Rattle.records.specs.Steps.{at}
 use Rattle.records.proofs.Pairing.{are_tokens_lem}
 use Rattle.records.proofs.two.read_tokens.Goals as goal
 

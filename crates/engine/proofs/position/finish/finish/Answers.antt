@@ -1,4 +1,4 @@
-use Rattle.std.proofs.Common.{◌≡◌, sym, ◌∙◌, arith, w32, SFits, rules}
+use Rattle.std.proofs.Common.{◌∙◌, arith, w32, SFits, rules}
 use Rattle.std.proofs.lemmas.Int.{to_z-of_z}
 use Rattle.engine.specs.Calls.{finish_list}
 use Rattle.engine.proofs.Writing.{below_none, below_more, below_all}

@@ -1,6 +1,5 @@
-use Rattle.std.proofs.Common.{◌≡◌, true, ◌&&◌, eqb, [], sym, ap, ◌∙◌, arith}
+use Rattle.std.proofs.Common.{eqb, [], sym, ◌∙◌}
 use Rattle.std.proofs.lemmas.Bool.{cond-true, cond-false, eq-eqb, ne_eqb, and_left, and_right, and_from, lt-ltb, le-ltb}
-use Rattle.engine.specs.Calls.{enough}
 use Rattle.engine.specs.Lent.{lent}
 use Rattle.engine.proofs.Exits.{enough_from, short_board, short_working, short_waiting}
 use Rattle.engine.proofs.position.limits.check_limit.Goals as goal

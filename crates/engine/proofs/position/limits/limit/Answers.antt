@@ -1,9 +1,7 @@
-use Rattle.std.proofs.Common.{◌≡◌, ◌<◌, ◌≤◌, ◌++◌, length, Ok, Err, sym, refl, ap, ◌∙◌, subst, arith, length-set, rules}
+use Rattle.std.proofs.Common.{◌<◌, length, Err, sym, refl, ap, ◌∙◌, arith, length-set, rules}
 use borrow.Author.Rules.{scaled_Fits}
 use Rattle.std.proofs.lemmas.Result.{err_from_is_err_and}
 use Rattle.std.proofs.lemmas.Bool.{eqb-true, eqb-false}
-use Rattle.engine.specs.declared.refusal.Refusal.TheVariants.{NothingShared}
-use Rattle.engine.specs.Calls.{limit_reply}
 use Rattle.engine.specs.Lent.{at}
 use Rattle.engine.proofs.Limiting.{checks_passed, checks_failed, enough_board, enough_working, enough_waiting, limiting_hole, limiting_nothing, limiting_full, limiting_tried}
 use Rattle.engine.proofs.position.limits.limit.Goals as goal

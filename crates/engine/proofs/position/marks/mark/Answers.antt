@@ -1,7 +1,7 @@
-use Rattle.std.proofs.Common.{◌≡◌, Ok, Err, sym, ap, ◌∙◌, arith}
+use Rattle.std.proofs.Common.{Err, ap, ◌∙◌}
 use Rattle.std.proofs.lemmas.Result.{err_from_is_err_and}
 use Rattle.engine.specs.Lent.{at}
-use Rattle.engine.proofs.Keeping.{keep_board, keep_marks, mark_failed, marking_full, marking}
+use Rattle.engine.proofs.Keeping.{mark_failed, marking_full, marking}
 use Rattle.engine.proofs.position.marks.mark.Goals as goal
 
 pub returns-in_err-check_keep : goal.returns-in_err-check_keep

@@ -1,8 +1,5 @@
-use Rattle.std.proofs.Common.{◌≡◌, ◌≤◌, ◌++◌, length, take, drop, Ok, Err, sym, refl, ap, ◌∙◌, subst, ap₂, arith}
+use Rattle.std.proofs.Common.{◌++◌, take, drop, Ok, Err, sym, ap, ◌∙◌, ap₂, arith}
 use Rattle.std.proofs.lemmas.Result.{err_from_is_err_and}
-use Rattle.books.specs.Meaning.{Meaning}
-use Rattle.engine.specs.declared.refusal.Refusal.TheVariants.{TooShort}
-use Rattle.engine.specs.Calls.{open_reply}
 use Rattle.engine.specs.Waiting.{none_wait}
 use Rattle.engine.specs.Lent.{lent, opened, empty_told}
 use Rattle.engine.proofs.Exits.{open_short, short_board, short_working, short_waiting}

@@ -1,4 +1,4 @@
-use Rattle.std.proofs.Common.{eqb, sym, ap, ◌∙◌, arith}
+use Rattle.std.proofs.Common.{eqb, sym, ◌∙◌, arith}
 use Rattle.engine.proofs.Lowest.{lowest_here, lowest_later, lowest_end}
 use Rattle.engine.proofs.position.settling.lowest_empty.Goals as goal
 

@@ -1,1 +1,0 @@
-use Rattle.engine.proofs.position.settling.prepare.Goals as goal

@@ -1,4 +1,3 @@
-use Rattle.std.proofs.Common.{◌≡◌, min, length, sym, ap, ◌∙◌}
 use Rattle.records.proofs.Naming.{first_places}
 use Rattle.records.proofs.names.Names.new.Goals as goal
 

@@ -1,4 +1,4 @@
-use Rattle.std.proofs.Common.{◌≡◌, get_or, sym, ap, ◌∙◌, arith, w32, to_z, of_z}
+use Rattle.std.proofs.Common.{get_or, sym, ap, ◌∙◌, arith, w32, to_z, of_z}
 use Rattle.rules.specs.SumRows.{blank}
 use Rattle.rules.specs.Sums.{keep_at_least}
 use Rattle.rules.specs.declared.sums.term.Relation.TheVariants.{AtMost, AtLeast, Equal}

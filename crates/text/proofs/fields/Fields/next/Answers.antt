@@ -1,4 +1,4 @@
-use Rattle.std.proofs.Common.{◌≡◌, ◌<◌, ◌≤◌, length, sym, ap, ◌∙◌, rules}
+use Rattle.std.proofs.Common.{◌<◌, ◌≤◌, length, sym, ap, ◌∙◌, rules}
 use Rattle.text.specs.Fields.{fields_in, first, others}
 use Rattle.text.proofs.Fielding.{last_field, next_field}
 use Rattle.text.proofs.fields.Fields.next.Goals as goal

@@ -1,4 +1,4 @@
-use Rattle.std.proofs.Common.{◌≡◌, ◌<◌, length, get_or, sym, ap, ◌∙◌, subst, arith}
+use Rattle.std.proofs.Common.{◌<◌, length, get_or, sym, ap, ◌∙◌, subst, arith}
 use Rattle.spans.specs.declared.choice.Choice.{Choice}
 use Rattle.books.specs.Meaning.{Rule}
 use Rattle.rules.specs.ChoiceRules.{link_of}

@@ -1,4 +1,4 @@
-use Rattle.std.proofs.Common.{◌≡◌, length, sym, ap, ◌∙◌, arith}
+use Rattle.std.proofs.Common.{length, sym, ap, ◌∙◌, arith}
 use Rattle.spans.specs.declared.choice.Choice.{Choice}
 use Rattle.books.specs.Meaning.{Rule}
 use Rattle.rules.specs.BookCounts.{place_count}

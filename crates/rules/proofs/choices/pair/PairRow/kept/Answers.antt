@@ -1,7 +1,6 @@
-use Rattle.std.proofs.Common.{ℕ, List, take, pos, ap, ◌∙◌, subst, arith}
+use Rattle.std.proofs.Common.{ℕ, take, pos, ap, ◌∙◌, subst, arith}
 use Rattle.spans.specs.Choices.{choice_admits, Exactly}
 use Rattle.spans.specs.declared.choice.Choice.{Choice}
-use Rattle.rules.specs.declared.choices.token.TokenPair.{TokenPair}
 use Rattle.rules.specs.ChoiceRows.{pairs_of}
 use Rattle.rules.specs.ChoiceRules.{some_pair, joins}
 use Rattle.rules.proofs.Keeping.{kept_is, meet_keeps}

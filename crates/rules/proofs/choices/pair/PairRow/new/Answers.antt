@@ -1,5 +1,4 @@
-use Rattle.std.proofs.Common.{◌+◌, length, get_or, take, sym, refl, ap, ◌∙◌, subst, arith, length-set}
-use Rattle.std.proofs.lemmas.List.{take_more, take_more_set, take_all}
+use Rattle.std.proofs.Common.{length, sym, refl, ◌∙◌, arith, length-set}
 use Rattle.rules.proofs.Filling.{filled_more, filled_all, row_fine}
 use Rattle.rules.proofs.choices.pair.PairRow.new.Goals as goal
 
