@@ -6,7 +6,7 @@ use Rattle.std.proofs.lemmas.Slice.Eq.{compares_Decides}
 use Rattle.std.proofs.lemmas.List.{nil_from_length}
 use Rattle.std.proofs.lemmas.Bool.{and_parts, and_from, cond-true, leb-true, le-leb, eqb-true}
 use Rattle.std.specs.Fmt.{signed_decimal}
-use Rattle.std.specs.List.{AllByRecursion as All}
+use Rattle.std.specs.List.{AllByRecursion}
 use Rattle.text.specs.declared.fault.At.{At}
 use Rattle.text.specs.declared.fault.FieldFault.{FieldFault}
 use Rattle.text.specs.declared.fault.FieldFault.TheVariants.{Malformed, OutOfRange}
@@ -36,7 +36,7 @@ pub line_from : (bytes : List ℕ) (fs : List (List ℕ)) → fields_of bytes �
 line_from bytes fs e = sym (cut_joined 9 bytes) ∙ ap tabbed e
 
 -- fields without a tab are those of the line that they make
-pub line_to : (f : List ℕ) (fs : List (List ℕ)) → Lacks 9 f → All (Lacks 9) fs → fields_of (tabbed (f ∷ fs)) ≡ f ∷ fs
+pub line_to : (f : List ℕ) (fs : List (List ℕ)) → Lacks 9 f → AllByRecursion (Lacks 9) fs → fields_of (tabbed (f ∷ fs)) ≡ f ∷ fs
 line_to f fs l ls = joined_cut 9 f fs l ls
 
 -- a record that is read has a right count of fields

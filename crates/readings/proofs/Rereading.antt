@@ -2,7 +2,7 @@
 use Rattle.std.proofs.Common.{◌≡◌, ℕ, ◌+◌, ◌<◌, ◌≤◌, Bool, true, false, cond, ◌↔◌, List, [], ◌∷◌, ◌++◌, map, length, None, Ok, Err, Result, sym, refl, ap, ◌∙◌, subst, arith}
 use Rattle.std.proofs.lemmas.List.{append-nil, append_assoc, length-append, length_push}
 use Rattle.std.proofs.lemmas.Bool.{cond-true, cond-false, le-ltb, and_parts, and_from}
-use Rattle.std.specs.List.{AllByRecursion as All}
+use Rattle.std.specs.List.{AllByRecursion}
 use Rattle.text.specs.Lines.{Lined}
 use Rattle.records.specs.declared.fault.SheetFault.{SheetFault}
 use Rattle.records.specs.declared.kind.SpanKind.{SpanKind}
@@ -59,7 +59,7 @@ rules_from_lem kind room ps n rows (l ∷ ls) h e = go (rule_of kind room ps (n 
         }
 
 -- the lines of rules are read without a fault
-rules_to : (kind : SpanKind) (room : ℕ) (ps : List Place) (n : ℕ) (rows : List Row) (rules : List Rule) → are_places kind [] ps ≡ true → All (ProperRule kind ps) rules → length rows + length rules ≤ room
+rules_to : (kind : SpanKind) (room : ℕ) (ps : List Place) (n : ℕ) (rows : List Row) (rules : List Rule) → are_places kind [] ps ≡ true → AllByRecursion (ProperRule kind ps) rules → length rows + length rules ≤ room
     → AllRead (rules_from kind room ps n rows (map whole (map (rule_written ps) rules))) ps (rows ++ map (row_for (length ps)) rules)
 rules_to kind room ps n rows [] places proper h = (refl, sym (append-nil rows), refl)
 rules_to kind room ps n rows (rule ∷ rules) places proper h =
@@ -131,13 +131,13 @@ places_from_lem kind places rules n ps (l ∷ ls) h e = go (is_place_line l) ref
 
 -- the lines of places and then of rules are read without a fault
 places_to : (kind : SpanKind) (places rules n : ℕ) (ps more all : List Place) (rs : List Rule) → all ≡ ps ++ more → are_places kind ps more ≡ true → are_places kind [] all ≡ true
-    → All (ProperRule kind all) rs → length all ≤ places → length rs ≤ rules
+    → AllByRecursion (ProperRule kind all) rs → length all ≤ places → length rs ≤ rules
     → Reads (places_from kind places rules n ps (map whole (map place_written more ++ map (rule_written all) rs))) all rs
 places_to kind places rules n ps [] all rs is after proper proper_rules few_places few_rules =
     subst (λ (qs : List Place). Reads (places_from kind places rules n qs (map whole (map (rule_written all) rs))) all rs) (is ∙ append-nil ps)
     (go rs proper_rules (rules_to kind rules all n [] rs proper proper_rules (omega arith)))
   where
-    go : (rs : List Rule) → All (ProperRule kind all) rs → let lines = map whole (map (rule_written all) rs) in Reads (rules_from kind rules all n [] lines) all rs → Reads (places_from kind places rules n all lines) all rs
+    go : (rs : List Rule) → AllByRecursion (ProperRule kind all) rs → let lines = map whole (map (rule_written all) rs) in Reads (rules_from kind rules all n [] lines) all rs → Reads (places_from kind places rules n all lines) all rs
     go [] h r = r
     go (rule ∷ rs) h r = subst (λ reading. Reads reading all (rule ∷ rs)) (sym (cond-false _ _ _ (rule_to kind all n rule proper h.0).0)) r
 places_to kind places rules n ps (p ∷ more) all rs is after proper proper_rules few_places few_rules =

@@ -5,7 +5,7 @@ use Rattle.std.proofs.lemmas.Slice.Eq.{bytes_eq-Decides}
 use Rattle.std.proofs.lemmas.List.{nil_from_length}
 use Rattle.std.proofs.lemmas.Bool.{and_parts, and_from, not_from_false, cond-true, cond-false, eqb-true, eq-eqb, lt-ltb, ltb-true, leb-true, le-leb}
 use Rattle.std.specs.Fmt.{signed_decimal}
-use Rattle.std.specs.List.{AllByRecursion as All}
+use Rattle.std.specs.List.{AllByRecursion}
 use Rattle.std.specs.Str.{bytes_eq}
 use Rattle.spans.specs.Bounds.{bounded}
 use Rattle.rules.specs.declared.sums.term.Relation.{Relation}
@@ -110,7 +110,7 @@ opening_from Choices line ns o l e =
 
 -- and an opening that may be one is read from its numbers
 record Opens (kind : SpanKind) (line : ℕ) (o : Opening) : Type 0 where
-  lack : All (Lacks 9) (opening_written o)
+  lack : AllByRecursion (Lacks 9) (opening_written o)
   count : length (opening_written o) ≡ numbers_of kind
   read : opening_of kind line (opening_written o) ≡ Ok o
 
@@ -299,7 +299,7 @@ rule_from kind ps line bytes row e = go kind (word_of (head (fields_of bytes))) 
     go Choices (Some word.Apart) w e = apart_from ps line bytes row (word_from (head (fields_of bytes)) word.Apart w) e
 
 -- a line of such fields is read as this row, and is no place's
-module _ (kind : SpanKind) (ps : List Place) (line : ℕ) (row : Row) (f : List ℕ) (fs : List (List ℕ)) (f-lacks : Lacks 9 f) (fs-lack : All (Lacks 9) fs)
+module _ (kind : SpanKind) (ps : List Place) (line : ℕ) (row : Row) (f : List ℕ) (fs : List (List ℕ)) (f-lacks : Lacks 9 f) (fs-lack : AllByRecursion (Lacks 9) fs)
     (rules : is_place_word (word_of f) ≡ false) (read : rule_by kind ps line (f ∷ fs) (word_of f) ≡ Ok row) where
   fields_to : (is_place_word (word_of (head (fields_of (tabbed (f ∷ fs))))) ≡ false) × (rule_line_of kind ps line (tabbed (f ∷ fs)) ≡ Ok row)
   fields_to =

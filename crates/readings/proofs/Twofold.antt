@@ -5,7 +5,7 @@ use Rattle.std.proofs.ByRecursion.{All-push}
 use Rattle.std.proofs.lemmas.List.{append-nil, append_assoc}
 use Rattle.std.proofs.lemmas.Bool.{and_parts, and_from, or_parts, or_from, not-true, eqb-false, ne_eqb, cond-false, ltb-true, le-ltb, both_ways}
 use Rattle.std.specs.Fmt.{signed_decimal}
-use Rattle.std.specs.List.{AllByRecursion as All}
+use Rattle.std.specs.List.{AllByRecursion}
 use Rattle.books.specs.Boards.{has}
 use Rattle.rules.specs.declared.sums.term.Term.{Term}
 use Rattle.rules.specs.ChoiceTests.{are_tokens}
@@ -40,11 +40,11 @@ module _ {T : Type 0} (one two : T → List ℕ) (written : List T → List (Lis
   twos_length [] = ap length written_none
   twos_length (t ∷ ts) = let l = ap length (written-more t ts) in let m = twos_length ts in omega arith
 
-  twos_lack : (P : T → Type 0) → ((t : T) → P t → Lacks 9 (one t) × Lacks 9 (two t)) → (ts : List T) → All P ts → All (Lacks 9) (written ts)
-  twos_lack P each [] h = subst (All (Lacks 9)) (sym written_none) tt
+  twos_lack : (P : T → Type 0) → ((t : T) → P t → Lacks 9 (one t) × Lacks 9 (two t)) → (ts : List T) → AllByRecursion P ts → AllByRecursion (Lacks 9) (written ts)
+  twos_lack P each [] h = subst (AllByRecursion (Lacks 9)) (sym written_none) tt
   twos_lack P each (t ∷ ts) h =
       let l = each t h.0 in
-      subst (All (Lacks 9)) (sym (written-more t ts)) (l.0, (l.1, twos_lack P each ts h.1))
+      subst (AllByRecursion (Lacks 9)) (sym (written-more t ts)) (l.0, (l.1, twos_lack P each ts h.1))
 
   module _ {E : Type 0} (read : ℕ → List T → List ℕ → List ℕ → Result T E) where
     -- what is read is what is written, where that holds of each two fields, and none is read of one field alone
@@ -77,11 +77,11 @@ module _ {T : Type 0} (one two : T → List ℕ) (written : List T → List (Lis
 abbrev AreTokens : rules.Tokens → Type 0
 AreTokens t = are_tokens t.first t.second ≡ true
 
-all_tokens_from : (ts : List rules.Tokens) → all_tokens ts ≡ true → All AreTokens ts
+all_tokens_from : (ts : List rules.Tokens) → all_tokens ts ≡ true → AllByRecursion AreTokens ts
 all_tokens_from [] e = tt
 all_tokens_from (t ∷ ts) e = let p = and_parts (are_tokens t.first t.second) (all_tokens ts) e in (p.0, all_tokens_from ts p.1)
 
-all_tokens_to : (ts : List rules.Tokens) → All AreTokens ts → all_tokens ts ≡ true
+all_tokens_to : (ts : List rules.Tokens) → AllByRecursion AreTokens ts → all_tokens ts ≡ true
 all_tokens_to [] h = refl
 all_tokens_to (t ∷ ts) h = and_from _ _ h.0 (all_tokens_to ts h.1)
 
@@ -102,7 +102,7 @@ module _ (line : ℕ) where
       subst (λ (u : rules.Tokens). (a ≡ first_token u) × (b ≡ second_token u)) (same_ok q.rest)
       ((count_from 0 63 (at line f) a r.value r.read).0, (count_from 0 63 (at line (f + 1)) b q.value q.read).0)
 
-  tokens_good : (f : ℕ) (ts : List rules.Tokens) (a b : List ℕ) (t : rules.Tokens) → tokens_at line f a b ≡ Ok t → All AreTokens ts → All AreTokens (ts ++ (t ∷ []))
+  tokens_good : (f : ℕ) (ts : List rules.Tokens) (a b : List ℕ) (t : rules.Tokens) → tokens_at line f a b ≡ Ok t → AllByRecursion AreTokens ts → AllByRecursion AreTokens (ts ++ (t ∷ []))
   tokens_good f ts a b t e h =
       let r = then_ok (count_within 0 63 (at line f) a) _ t e in
       let q = then_ok (count_within 0 63 (at line (f + 1)) b) _ t r.rest in
@@ -118,12 +118,12 @@ module _ (line : ℕ) where
   pub tokens_from_lem : (fs : List (List ℕ)) (ts : List rules.Tokens) → tokens_from line 3 [] fs ≡ Ok ts → (fs ≡ tokens_written ts) × (all_tokens ts ≡ true)
   tokens_from_lem fs ts e =
       let r = twos_from_lem first_token second_token tokens_written refl (λ t us. refl) tokens_read tokens_each tokens_none 3 [] fs ts e in
-      (r.2 ∙ ap tokens_written (sym r.1), all_tokens_to ts (twos_keep tokens_read (All AreTokens) tokens_good 3 [] fs ts tt e))
+      (r.2 ∙ ap tokens_written (sym r.1), all_tokens_to ts (twos_keep tokens_read (AllByRecursion AreTokens) tokens_good 3 [] fs ts tt e))
 
   pub tokens_to : (ts : List rules.Tokens) → all_tokens ts ≡ true → tokens_from line 3 [] (tokens_written ts) ≡ Ok ts
-  tokens_to ts e = twos_to first_token second_token tokens_written refl (λ t us. refl) tokens_read (λ us vs. All AreTokens vs) each 3 [] ts (all_tokens_from ts e)
+  tokens_to ts e = twos_to first_token second_token tokens_written refl (λ t us. refl) tokens_read (λ us vs. AllByRecursion AreTokens vs) each 3 [] ts (all_tokens_from ts e)
     where
-      each : (f : ℕ) (us : List rules.Tokens) (t : rules.Tokens) (vs : List rules.Tokens) → All AreTokens (t ∷ vs) → (tokens_at line f (first_token t) (second_token t) ≡ Ok t) × All AreTokens vs
+      each : (f : ℕ) (us : List rules.Tokens) (t : rules.Tokens) (vs : List rules.Tokens) → AllByRecursion AreTokens (t ∷ vs) → (tokens_at line f (first_token t) (second_token t) ≡ Ok t) × AllByRecursion AreTokens vs
       each f us t vs h =
           let p = and_parts (ltb t.first 64) (ltb t.second 64) h.0 in
           let a = ltb-true t.first 64 p.0 in
@@ -133,7 +133,7 @@ module _ (line : ℕ) where
             h.1,
           )
 
-pub tokens_lack : (ts : List rules.Tokens) → all_tokens ts ≡ true → All (Lacks 9) (tokens_written ts)
+pub tokens_lack : (ts : List rules.Tokens) → all_tokens ts ≡ true → AllByRecursion (Lacks 9) (tokens_written ts)
 tokens_lack ts e = twos_lack first_token second_token tokens_written refl (λ t us. refl) AreTokens each ts (all_tokens_from ts e)
   where
     lacks : (n : ℕ) → ltb n 64 ≡ true → Lacks 9 (signed_decimal (pos n))
@@ -184,7 +184,7 @@ term_among n (x ∷ ts) t us e =
     let apart : t.place ≡ x.place → ⊥ = λ z. has_no x.place ts t us (not-true _ q.1) (sym z) in
     (r.0, or_from (eqb t.place x.place) (uses ts t.place) (ne_eqb t.place x.place apart) r.1)
 
-all_terms : (n : ℕ) (ts : List Term) → terms_test n ts ≡ true → All (λ t. term_test n t ≡ true) ts
+all_terms : (n : ℕ) (ts : List Term) → terms_test n ts ≡ true → AllByRecursion (λ t. term_test n t ≡ true) ts
 all_terms n [] e = tt
 all_terms n (t ∷ ts) e =
     let s = and_parts (term_test n t && not (has t.place (map place_of ts))) (terms_test n ts) e in
@@ -235,7 +235,7 @@ module _ (ps : List Place) where
               ap (terms_test (length ps)) (append_assoc us (t ∷ []) vs) ∙ e,
             )
 
-    pub terms_lack : All (Lacks 9) (terms_written ps ts)
+    pub terms_lack : AllByRecursion (Lacks 9) (terms_written ps ts)
     terms_lack = twos_lack coefficient_field place_field (terms_written ps) refl (λ t us. refl) (λ t. term_test (length ps) t ≡ true) each ts (all_terms (length ps) ts terms)
       where
         each : (t : Term) → term_test (length ps) t ≡ true → Lacks 9 (coefficient_field t) × Lacks 9 (place_field t)

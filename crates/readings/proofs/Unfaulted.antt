@@ -1,7 +1,7 @@
 -- What is known of lines that are read without a fault, apart from what the lines are. Assumes nothing.
 use Rattle.std.proofs.Common.{◌≡◌, ℕ, ◌+◌, ◌<◌, ◌≤◌, Bool, true, false, cond, ltb, List, [], ◌∷◌, ◌++◌, map, length, Some, None, Ok, Err, Option, Result, sym, refl, ap, ◌∙◌, subst, arith}
 use Rattle.std.proofs.lemmas.Bool.{cond-true, ltb-true, ltb-false, lt-ltb}
-use Rattle.std.specs.List.{AllByRecursion as All}
+use Rattle.std.specs.List.{AllByRecursion}
 use Rattle.text.specs.declared.fault.TextFault.TheVariants.{TooBig}
 use Rattle.records.specs.declared.fault.SheetFault.{SheetFault}
 use Rattle.records.specs.declared.fault.SheetFault.TheVariants.{Full}
@@ -27,7 +27,7 @@ AllRead reading ps rows = (reading.places ≡ ps) × (reading.rules ≡ rows) ×
 -- the reading of lines that are those of rules, behind the rows given
 pub record RuleLines (kind : SpanKind) (room : ℕ) (ps : List Place) (rows : List Row) (lines : List Line) (reading : Reading) : Type 0 where
   pub stated : List Rule
-  pub proper : All (ProperRule kind ps) stated
+  pub proper : AllByRecursion (ProperRule kind ps) stated
   pub written : lines ≡ map whole (map (rule_written ps) stated)
   pub few : length rows + length stated ≤ room
   pub reads : AllRead reading ps (rows ++ map (row_for (length ps)) stated)
@@ -39,7 +39,7 @@ pub record PlaceLines (kind : SpanKind) (places rules : ℕ) (ps : List Place) (
   pub stated : List Rule
   pub is : all ≡ ps ++ more
   pub proper_places : are_places kind ps more ≡ true
-  pub proper_rules : All (ProperRule kind all) stated
+  pub proper_rules : AllByRecursion (ProperRule kind all) stated
   pub written : lines ≡ map whole (map place_written more ++ map (rule_written all) stated)
   pub few_places : length all ≤ places
   pub few_rules : length stated ≤ rules

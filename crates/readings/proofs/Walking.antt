@@ -1,7 +1,7 @@
 -- The line reader walks the lines of a sheet. Assumes nothing.
 use Rattle.std.proofs.Common.{◌≡◌, ℕ, ◌+◌, Bool, true, false, cond, eqb, ltb, List, [], ◌∷◌, length, Some, Ok, Err, sym, refl, ap, ◌∙◌, subst, arith}
 use Rattle.std.proofs.lemmas.Bool.{cond-false, ne_eqb}
-use Rattle.std.specs.List.{AllByRecursion as All}
+use Rattle.std.specs.List.{AllByRecursion}
 use Rattle.text.specs.declared.fault.TextFault.TheVariants.{TooLong}
 use Rattle.text.specs.Lines.{Step, stay, end_step, step_of, line_next}
 use Rattle.text.specs.Parts.{cut_at, joined_by, Lacks}
@@ -27,7 +27,7 @@ walks read left = go (cut_at 10 left) refl (cut_lacks 10 left)
     more true line next parts e c = record { answer = refl; left = e; count = refl }
     more false line next parts e c = record { answer = refl; left = ap lines_from c; count = refl }
 
-    go : (parts : List (List ℕ)) → cut_at 10 left ≡ parts → All (Lacks 10) parts → Walks read (lines_from parts) (step_of read left parts)
+    go : (parts : List (List ℕ)) → cut_at 10 left ≡ parts → AllByRecursion (Lacks 10) parts → Walks read (lines_from parts) (step_of read left parts)
     go [] e l = record { answer = refl; left = ap lines_from e; count = refl }
     go ([] ∷ []) e l = record { answer = refl; left = ap lines_from e; count = refl }
     go ((b ∷ line) ∷ []) e l =

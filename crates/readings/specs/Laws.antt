@@ -1,6 +1,6 @@
 -- What readings come to, in the words of the game. Assumes nothing.
 use Rattle.std.specs.Prelude.{◌≡◌, ℕ, suc, ◌≤◌, true, ◌⊎◌, ◌↔◌, List, [], ◌∷◌, ◌++◌, map, length, Some, None, Option, ◌≢◌}
-use Rattle.std.specs.List.{AllByRecursion as All}
+use Rattle.std.specs.List.{AllByRecursion}
 use Rattle.text.specs.Lines.{Lined}
 use Rattle.records.specs.declared.fault.SheetFault.{SheetFault}
 use Rattle.records.specs.declared.fault.SheetFault.TheVariants.{Title, NoPlace}
@@ -29,13 +29,13 @@ pub record GameOf (kind : SpanKind) (places rules : ℕ) (sheet : List ℕ) (ps 
   pub few_places : length ps ≤ place_room places
   pub proper_places : are_places kind [] ps ≡ true
   pub few_rules : length rs ≤ rule_room rules
-  pub proper_rules : All (λ r. is_rule kind (length ps) r ≡ true) rs
+  pub proper_rules : AllByRecursion (λ r. is_rule kind (length ps) r ≡ true) rs
 
 -- the same of an expansion's rules, which use the names of a game's places
 pub record ExpansionOf (kind : SpanKind) (ps : List Place) (rules : ℕ) (sheet : List ℕ) (rs : List Rule) : Type 0 where
   pub written : Lined sheet (expansion_lines kind ps rs)
   pub few_rules : length rs ≤ rule_room rules
-  pub proper_rules : All (λ r. is_rule kind (length ps) r ≡ true) rs
+  pub proper_rules : AllByRecursion (λ r. is_rule kind (length ps) r ≡ true) rs
 
 -- a reading without a fault, but that a game may want a place
 abbrev pub Unfaulted : Option SheetFault → Type 0

@@ -2,7 +2,7 @@
 use Rattle.std.proofs.Common.{◌≡◌, ℕ, suc, ◌+◌, ◌<◌, ◌≤◌, Bool, true, false, cond, ltb, List, [], ◌∷◌, ◌++◌, length, Some, None, Ok, Err, Option, Result, sym, refl, ap, ◌∙◌, subst, zero-add, arith}
 use Rattle.std.proofs.lemmas.List.{length-append}
 use Rattle.std.proofs.lemmas.Bool.{cond-false, ltb-false, le-ltb}
-use Rattle.std.specs.List.{AllByRecursion as All}
+use Rattle.std.specs.List.{AllByRecursion}
 use Rattle.text.specs.declared.fault.TextFault.{TextFault}
 use Rattle.text.specs.declared.fault.TextFault.TheVariants.{TooBig, TooLong}
 use Rattle.text.specs.Parts.{cut_at, joined_by, led, Lacks, Parted}
@@ -28,7 +28,7 @@ lines_step read left = go (cut_at 10 left) (cut_lacks 10 left)
     more_lines true line rest ps e = refl
     more_lines false line rest ps e = ap (λ (qs : List (List ℕ)). infront line (lines_in (read + 1) qs)) e
 
-    go : (parts : List (List ℕ)) → All (Lacks 10) parts → let s = step_of read left parts in lines_in read parts ≡ by_answer s.read s.answer s.left
+    go : (parts : List (List ℕ)) → AllByRecursion (Lacks 10) parts → let s = step_of read left parts in lines_in read parts ≡ by_answer s.read s.answer s.left
     go [] h = refl
     go (line ∷ []) h = last (ltb 1024 (length line)) line
     go (line ∷ (next ∷ more)) h = more_lines (ltb 1024 (length line)) line (joined_by 10 (next ∷ more)) (next ∷ more) (sym (joined_cut 10 next more h.1.0 h.1.1))
@@ -104,7 +104,7 @@ FitsALine line = length line ≤ 1024
 
 -- the parts are the lines and then an empty part
 abbrev Ends : List (List ℕ) → List (List ℕ) → Type 0
-Ends parts lines = (parts ≡ lines ++ ([] ∷ [])) × All FitsALine lines
+Ends parts lines = (parts ≡ lines ++ ([] ∷ [])) × AllByRecursion FitsALine lines
 
 -- the parts of a sheet without a fault end so
 lines_parts : (read : ℕ) (parts lines : List (List ℕ)) → (parts ≡ [] → ⊥) → lines_in read parts ≡ Ok lines → Ends parts lines
@@ -130,7 +130,7 @@ lines_parts read (line ∷ parts) lines some e = go (ltb 1024 (length line)) ref
     go false h (p ∷ ps) f e = more_lines (p ∷ ps) (ltb-false 1024 (length line) h) (lines_in (read + 1) (p ∷ ps)) (λ ls. f ls (λ n. (let z : ◌≡◌ {A = ℕ} (suc (length ps)) 0 = ap length n in omega arith))) e
 
 -- and parts that end so have no fault
-parts_lines : (read : ℕ) (lines : List (List ℕ)) → All FitsALine lines → lines_in read (lines ++ ([] ∷ [])) ≡ Ok lines
+parts_lines : (read : ℕ) (lines : List (List ℕ)) → AllByRecursion FitsALine lines → lines_in read (lines ++ ([] ∷ [])) ≡ Ok lines
 parts_lines read [] h = refl
 parts_lines read (line ∷ lines) h = cond-false _ _ _ (le-ltb 1024 (length line) h.0) ∙ go lines ∙ ap (infront line) (parts_lines (read + 1) lines h.1)
   where
@@ -147,11 +147,11 @@ joined_ended : (lines : List (List ℕ)) → joined_by 10 (lines ++ ([] ∷ []))
 joined_ended [] = refl
 joined_ended (line ∷ lines) = ap (λ (bs : List ℕ). line ++ bs) (led_ended lines)
 
-front : (P : List ℕ → Type 0) (lines : List (List ℕ)) (l : List ℕ) → All P (lines ++ (l ∷ [])) → All P lines
+front : (P : List ℕ → Type 0) (lines : List (List ℕ)) (l : List ℕ) → AllByRecursion P (lines ++ (l ∷ [])) → AllByRecursion P lines
 front P [] l h = tt
 front P (line ∷ lines) l h = (h.0, front P lines l h.1)
 
-lacks_ended : (lines : List (List ℕ)) → All (Lacks 10) lines → All (Lacks 10) (lines ++ ([] ∷ []))
+lacks_ended : (lines : List (List ℕ)) → AllByRecursion (Lacks 10) lines → AllByRecursion (Lacks 10) (lines ++ ([] ∷ []))
 lacks_ended [] h = (tt, tt)
 lacks_ended (line ∷ lines) h = (h.0, lacks_ended lines h.1)
 
@@ -173,7 +173,7 @@ lines_law sheet lines = (to, from)
             record {
               small = ltb-false 65535 (length sheet) h;
               short = p.1;
-              plain = front (Lacks 10) lines [] (subst (All (Lacks 10)) p.0 (cut_lacks 10 sheet));
+              plain = front (Lacks 10) lines [] (subst (AllByRecursion (Lacks 10)) p.0 (cut_lacks 10 sheet));
               join = sym (joined_ended lines) ∙ ap (joined_by 10) (sym p.0) ∙ cut_joined 10 sheet;
             }
 

@@ -2,7 +2,7 @@
 use Rattle.std.proofs.Common.{◌≡◌, ℕ, suc, ◌+◌, ◌<◌, ◌≤◌, Bool, true, false, cond, eqb, List, [], ◌∷◌, length, get_or, take, drop, sym, refl, ap, ◌∙◌, subst, arith}
 use Rattle.std.proofs.lemmas.List.{at_drop_more}
 use Rattle.std.proofs.lemmas.Bool.{cond-true, cond-false, eq-eqb, ne_eqb, eqb-true, eqb-false}
-use Rattle.std.specs.List.{AllByRecursion as All}
+use Rattle.std.specs.List.{AllByRecursion}
 use Rattle.text.specs.Parts.{before, grown, cut_at, led, joined_by, Lacks, Parted, PartsLaw}
 
 -- one turn of the search for a mark
@@ -69,20 +69,20 @@ cut_joined mark (b ∷ bs) = go (eqb b mark) refl ∙ ap (λ (xs : List ℕ). b 
     go false e = joined_grown mark b (cut_at mark bs)
 
 -- no part holds a mark
-grown_lacks : (mark b : ℕ) (ps : List (List ℕ)) → (b ≡ mark → ⊥) → All (Lacks mark) ps → All (Lacks mark) (grown b ps)
+grown_lacks : (mark b : ℕ) (ps : List (List ℕ)) → (b ≡ mark → ⊥) → AllByRecursion (Lacks mark) ps → AllByRecursion (Lacks mark) (grown b ps)
 grown_lacks mark b [] ne h = ((ne, tt), tt)
 grown_lacks mark b (p ∷ ps) ne h = ((ne, h.0), h.1)
 
-pub cut_lacks : (mark : ℕ) (bs : List ℕ) → All (Lacks mark) (cut_at mark bs)
+pub cut_lacks : (mark : ℕ) (bs : List ℕ) → AllByRecursion (Lacks mark) (cut_at mark bs)
 cut_lacks mark [] = (tt, tt)
 cut_lacks mark (b ∷ bs) = go (eqb b mark) refl (cut_lacks mark bs)
   where
-    go : (t : Bool) → eqb b mark ≡ t → All (Lacks mark) (cut_at mark bs) → All (Lacks mark) (cond t ([] ∷ cut_at mark bs) (grown b (cut_at mark bs)))
+    go : (t : Bool) → eqb b mark ≡ t → AllByRecursion (Lacks mark) (cut_at mark bs) → AllByRecursion (Lacks mark) (cond t ([] ∷ cut_at mark bs) (grown b (cut_at mark bs)))
     go true e h = (tt, h)
     go false e h = grown_lacks mark b (cut_at mark bs) (eqb-false b mark e) h
 
 -- parts that lack the mark are the cut of their join
-pub joined_cut : (mark : ℕ) (p : List ℕ) (ps : List (List ℕ)) → Lacks mark p → All (Lacks mark) ps → cut_at mark (joined_by mark (p ∷ ps)) ≡ p ∷ ps
+pub joined_cut : (mark : ℕ) (p : List ℕ) (ps : List (List ℕ)) → Lacks mark p → AllByRecursion (Lacks mark) ps → cut_at mark (joined_by mark (p ∷ ps)) ≡ p ∷ ps
 joined_cut mark [] [] l ls = refl
 joined_cut mark [] (q ∷ qs) l ls = cond-true _ _ _ (eq-eqb mark mark refl) ∙ ap (λ (xs : List (List ℕ)). [] ∷ xs) (joined_cut mark q qs ls.0 ls.1)
 joined_cut mark (b ∷ p) ps l ls = cond-false _ _ _ (ne_eqb b mark l.0) ∙ ap (grown b) (joined_cut mark p ps l.1 ls)
@@ -93,13 +93,13 @@ parts_law mark bytes parts = (to, from)
     to : Parted mark bytes parts → parts ≡ cut_at mark bytes
     to h = go parts h.some h.lack ∙ ap (cut_at mark) h.join
       where
-        go : (qs : List (List ℕ)) → (qs ≡ [] → ⊥) → All (Lacks mark) qs → qs ≡ cut_at mark (joined_by mark qs)
+        go : (qs : List (List ℕ)) → (qs ≡ [] → ⊥) → AllByRecursion (Lacks mark) qs → qs ≡ cut_at mark (joined_by mark qs)
         go [] s l = absurd (s refl)
         go (q ∷ qs) s l = sym (joined_cut mark q qs l.0 l.1)
 
     from : parts ≡ cut_at mark bytes → Parted mark bytes parts
     from e = let s = cut_some mark bytes in record {
       some = λ n. (let z : ◌≡◌ {A = ℕ} (suc (length s.1)) 0 = ap length (sym s.2 ∙ sym e ∙ n) in omega arith);
-      lack = subst (All (Lacks mark)) (sym e) (cut_lacks mark bytes);
+      lack = subst (AllByRecursion (Lacks mark)) (sym e) (cut_lacks mark bytes);
       join = ap (joined_by mark) e ∙ cut_joined mark bytes;
     }

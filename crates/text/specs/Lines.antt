@@ -1,7 +1,7 @@
 -- A sheet as lines.
 use Rattle.std.specs.Prelude.{◌≡◌, ℕ, ◌+◌, ◌≤◌, cond, ◌↔◌, List, [], ◌∷◌, ◌++◌, length, drop, Some, None, Ok, Err, Option, Result, nat_lt}
 use Rattle.std.specs.Borrow.{Bor}
-use Rattle.std.specs.List.{AllByRecursion as All}
+use Rattle.std.specs.List.{AllByRecursion}
 use Rattle.text.specs.declared.fault.TextFault.{TextFault}
 use Rattle.text.specs.declared.fault.TextFault.TheVariants.{TooBig, Unended, TooLong}
 use Rattle.text.specs.declared.lines.Lines.{Lines}
@@ -87,8 +87,8 @@ ended (line ∷ lines) = line ++ (10 ∷ ended lines)
 -- what makes a list of lines the lines of a sheet without a fault
 pub record Lined (sheet : List ℕ) (lines : List (List ℕ)) : Type 0 where
   pub small : length sheet ≤ 65535
-  pub short : All (λ line. length line ≤ 1024) lines
-  pub plain : All (Lacks 10) lines
+  pub short : AllByRecursion (λ line. length line ≤ 1024) lines
+  pub plain : AllByRecursion (Lacks 10) lines
   pub join : ended lines ≡ sheet
 
 -- a sheet has no fault exactly where there are such lines, and then they are those that are read

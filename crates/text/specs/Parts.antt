@@ -1,6 +1,6 @@
 -- Bytes cut into parts at a byte.
 use Rattle.std.specs.Prelude.{◌≡◌, ℕ, cond, ◌↔◌, List, [], ◌∷◌, ◌++◌, ◌==◌, ◌≢◌}
-use Rattle.std.specs.List.{AllByRecursion as All}
+use Rattle.std.specs.List.{AllByRecursion}
 
 -- the bytes before the first byte `mark`; all of them where there is none
 abbrev pub before : ℕ → List ℕ → List ℕ
@@ -29,12 +29,12 @@ joined_by mark (part ∷ parts) = part ++ led mark parts
 
 -- no byte of the part is `mark`
 abbrev pub Lacks : ℕ → List ℕ → Type 0
-Lacks mark part = All (λ b. b ≢ mark) part
+Lacks mark part = AllByRecursion (λ b. b ≢ mark) part
 
 -- what makes a list of parts the cut of some bytes: there is one, none holds a byte `mark`, and joined they are the bytes
 pub record Parted (mark : ℕ) (bytes : List ℕ) (parts : List (List ℕ)) : Type 0 where
   pub some : parts ≡ [] → ⊥
-  pub lack : All (Lacks mark) parts
+  pub lack : AllByRecursion (Lacks mark) parts
   pub join : joined_by mark parts ≡ bytes
 
 -- bytes are cut in one way only
