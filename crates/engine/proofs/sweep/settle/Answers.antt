@@ -18,7 +18,7 @@ sweep-requires g c =
     let kind = g.B.Span.Span.kind in
     let book = g.B.Book.meaning c.args.book.now in
     let k = c.loop-after.invariant.2 in
-    let w : length c.fill.new.waiting ≡ length c.args.waiting.now = ap length c.fill.ensures ∙ length_filled c.rules.result 1 c.args.waiting.now (omega arith) in
+    let w : length c.fill.new.waiting ≡ length c.args.waiting.now = ap length c.fill.ensures ∙ length_filled c.rules.result _ c.args.waiting.now (omega arith) in
     record {
       full = k.full;
       waiting = omega (arith, k.long, w, c.requires.waiting);

@@ -1,4 +1,4 @@
-use Rattle.std.proofs.Common.{eqb, [], sym, ◌∙◌}
+use Rattle.std.proofs.Common.{eqb, [], sym, ◌∙◌, arith}
 use Rattle.std.proofs.lemmas.Bool.{cond-true, cond-false, eq-eqb, ne_eqb, and_left, and_right, and_from, lt-ltb, le-ltb}
 use Rattle.engine.specs.Lent.{lent}
 use Rattle.engine.proofs.Exits.{enough_from, short_board, short_working, short_waiting}
@@ -30,7 +30,7 @@ returns-then-place-position g c =
     let p = c.args.position.now in
     let fits = enough_from p.places p.rules (lent c.args.board.now c.args.working.now c.args.waiting.now []) c.if-board-position.false c.if-working-position.false c.if-waiting-position.false in
     let same = and_from _ _ (eq-eqb _ p.places (sym c.places.ensures ∙ c.if-places-position.false)) (eq-eqb _ p.rules (sym c.rules.ensures ∙ c.if-rules-position.false)) in
-    sym (cond-true _ _ _ fits ∙ cond-true _ _ _ same ∙ cond-false _ _ _ (le-ltb _ _ c.if-place-position.true))
+    sym (cond-true _ _ _ fits ∙ cond-true _ _ _ same ∙ cond-false _ _ _ (le-ltb c.args.place p.places (omega arith)))
 
 pub returns : goal.returns
 returns g c =
