@@ -1,8 +1,10 @@
 -- Whether a place stands in a list: the test, its meaning, and one turn of the search for it. Assumes nothing.
-use Rattle.std.proofs.Common.{◌≡◌, ℕ, zero, suc, ◌+◌, ◌<◌, Bool, true, false, ◌||◌, T, eqb, ◌⊎◌, List, [], ◌∷◌, length, get_or, drop, sym, refl, ap, ◌∙◌, subst, inl, inr, arith, eqb→eq}
+use Rattle.std.specs.List.{AllWithin, HoldsAt, range_with_len}
+use Rattle.std.specs.Bool.{MatchBool}
+use Rattle.std.proofs.Common.{◌≡◌, ℕ, zero, suc, ◌<◌, Bool, true, false, ◌||◌, T, eqb, ◌⊎◌, List, [], ◌∷◌, length, get_or, sym, refl, ap, ◌∙◌, subst, inl, inr, arith, eqb→eq}
 use lib.Dec.{eqb_refl}
-use Rattle.std.proofs.lemmas.List.{at_drop_more}
-use Rattle.std.proofs.lemmas.Bool.{eq-eqb, ne_eqb, or_left}
+use Rattle.std.proofs.lemmas.List.FromFn.{get_or-range_with_len, length-range_with_len}
+use Rattle.std.proofs.lemmas.Bool.{or_left}
 use Rattle.spans.specs.Bools.{either, first}
 use Rattle.books.specs.Boards.{Among, has}
 
@@ -29,9 +31,26 @@ among_at [] i h = absurd (omega arith)
 among_at (x ∷ xs) zero h = inl refl
 among_at (x ∷ xs) (suc i) h = inr (among_at xs i (omega arith))
 
-module _ (x : ℕ) (xs : List ℕ) (i : ℕ) (h : i < length xs) where
-  pub has_here : get_or xs i 0 ≡ x → has x (drop i xs) ≡ true
-  has_here e = at_drop_more (has x) xs i 0 h ∙ or_left (eqb x (get_or xs i 0)) _ (eq-eqb x (get_or xs i 0) (sym e))
+has_at : (x : ℕ) (xs : List ℕ) (i : ℕ) → i < length xs → true ≡ eqb x (get_or xs i 0) → true ≡ has x xs
+has_at x [] i h e = absurd (omega arith)
+has_at x (y ∷ ys) zero h e = sym (or_left (eqb x y) (has x ys) (sym e))
+has_at x (y ∷ ys) (suc i) h e = has_at x ys i (omega arith) e ∙ or_later (eqb x y) (has x ys) (sym (has_at x ys i (omega arith) e))
+  where
+    or_later : (s t : Bool) → t ≡ true → t ≡ (s || t)
+    or_later true t e = e
+    or_later false t e = refl
 
-  pub has_later : (get_or xs i 0 ≡ x → ⊥) → has x (drop i xs) ≡ has x (drop (i + 1) xs)
-  has_later ne = at_drop_more (has x) xs i 0 h ∙ ap (λ (t : Bool). t || has x (drop (i + 1) xs)) (ne_eqb x (get_or xs i 0) (λ e. ne (sym e)))
+lacks : (x : ℕ) (xs : List ℕ) → ((i : ℕ) → i < length xs → false ≡ eqb x (get_or xs i 0)) → false ≡ has x xs
+lacks x [] f = refl
+lacks x (y ∷ ys) f = lacks x ys (λ i h. f (suc i) (omega arith)) ∙ ap (λ (t : Bool). t || has x ys) (f 0 (omega arith))
+
+nth : (xs : List ℕ) (i : ℕ) → i < length xs → get_or (range_with_len 0 (length xs)) i 0 ≡ i
+nth xs i h = omega (arith, get_or-range_with_len 0 (length xs) i 0 h)
+
+-- a search through the indexes of a list decides whether x stands in it
+pub has_found : (x : ℕ) (xs : List ℕ) (r : Bool)
+    → MatchBool r ((k : ℕ) × (k < length (range_with_len 0 (length xs))) × HoldsAt (λ i. true ≡ eqb x (get_or xs i 0)) (range_with_len 0 (length xs)) k)
+    (AllWithin (λ i. false ≡ eqb x (get_or xs i 0)) (range_with_len 0 (length xs)) 0 (length (range_with_len 0 (length xs))))
+    → r ≡ has x xs
+has_found x xs true h = let l = length-range_with_len 0 (length xs) in has_at x xs h.0 (omega arith) (h.2 0 ∙ ap (λ (i : ℕ). eqb x (get_or xs i 0)) (nth xs h.0 (omega arith)))
+has_found x xs false h = let l = length-range_with_len 0 (length xs) in lacks x xs (λ i k. h i 0 (omega arith) (omega arith) ∙ ap (λ (j : ℕ). eqb x (get_or xs j 0)) (nth xs i k))

@@ -9,7 +9,7 @@ use spans::Span;
 
 const MOST_RULES: u32 = 1000;
 
-// Two books joined.
+// Two books joined. That they fit is no invariant: it would hide which of the two is asked for its places.
 #[derive(Drop)]
 pub struct Joined<'a, 'b, A: Book, B: Book<Span = A::Span>> {
     first: &'a A,

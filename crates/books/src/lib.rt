@@ -17,16 +17,17 @@ pub use refusal::JoinRefusal;
 // A place of a board, counted from 0: a book counts 1 to 254 of them.
 pub type Place = u8;
 
-// The place that is none.
+// The place that is none: the number that the game is told, and so no `Option`.
 pub const NO_PLACE: Place = 255;
 
 // A rule of a book, counted from 0: a book counts up to 1,000 of them.
 pub type RuleNumber = u16;
 
-// The rule that is none.
+// The rule that is none, told in the same way.
 pub const NO_RULE: RuleNumber = 65535;
 
 // A book of rules over boards, which have one span for each place. Only a rule and a place that it counts may be asked for.
+// That stands in each contract: a type for counted rules would have to hold the book that counts them.
 pub trait Book {
     // the kind of span that the book speaks of
     type Span: Span;
@@ -69,19 +70,16 @@ pub trait Book {
         requires { rule < (meaning self.now).rules }
         ensures { result ≡ has place ((meaning self.now).rule rule).scope }
     {
-        for i in 0..self.scope_len(rule) {
-            if self.scope_at(rule, i) == place {
-                return true;
-            }
-        }
-        false
+        (0..self.scope_len(rule)).any(|i| place == self.scope_at(rule, i))
     }
 
-    // Sets every rule that has the place to waiting. A book that knows the rules of a place may be faster.
+    // Sets every rule that has the place to waiting. A book that knows the rules of a place may be faster. The list is one of
+    // bytes, and not of `bool`, since that is what the game hands in.
     fn wake(&self, place: Place, waiting: &mut [u8])
         requires { (meaning self.now).rules ≤ length waiting.old }
         ensures { waiting.new ≡ woken (meaning self.now) place waiting.old }
     {
+        // Written by index: of what is written through a zipped or numbered `iter_mut` a proof knows the length alone.
         for rule in 0..self.rules() {
             if self.has_place(rule, place) {
                 waiting[rule as usize] = 1;

@@ -1,6 +1,5 @@
 -- What a try on the working board comes to. Assumes nothing.
-use Rattle.std.proofs.Common.{◌≡◌, ℕ, ◌≤◌, List, ◌++◌, length, drop, replicate, sym, ap}
-use Rattle.std.proofs.lemmas.List.{drop_at}
+use Rattle.std.proofs.Common.{◌≡◌, ℕ, ◌≤◌, List, length, sym, ap}
 use Rattle.spans.specs.Kind.{Kind}
 use Rattle.books.specs.Boards.{Full}
 use Rattle.books.specs.Meaning.{Meaning, Lawful}
@@ -8,13 +7,7 @@ use Rattle.books.specs.Sweeps.{settle}
 use Rattle.engine.specs.declared.refusal.Refusal.TheVariants.{Emptied}
 use Rattle.engine.specs.Calls.{denied, allowed, judged}
 use Rattle.engine.specs.Skims.{halted, onward, skimmed}
-use Rattle.engine.specs.Waiting.{filled, none_wait}
 use Rattle.engine.proofs.Passing.{settled_by, emptied_by}
-
--- the entries of the rules cleared, whatever they were
-pub cleared : (rules : ℕ) (w v : List ℕ) → length v ≡ rules → filled rules 0 (v ++ drop rules w) ≡ none_wait rules w
-unfolding filled
-cleared rules w v e = ap (λ (xs : List ℕ). replicate rules 0 ++ xs) (drop_at v (drop rules w) rules e)
 
 module _ {S : Type 0} (kind : Kind S) (book : Meaning S) (law : Lawful kind book) (b : List S) (w : List ℕ) (full : Full kind book.places b) (long : book.rules ≤ length w) where
   pub tried_granted : (after : List S) (v : List ℕ) (s : ℕ) → onward after v s ≡ skimmed kind book b w → judged (settle kind book b) ≡ allowed after s

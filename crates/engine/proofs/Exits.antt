@@ -1,15 +1,16 @@
 -- The ways out of each call: by its tests, what it comes to. Assumes nothing.
-use Rattle.std.proofs.Common.{◌≡◌, ℕ, suc, ◌+◌, ◌*◌, ◌<◌, ◌≤◌, true, false, ◌&&◌, eqb, leb, List, length, ℤ, pos, Ok, Err, ap, ◌∙◌}
-use Rattle.std.proofs.lemmas.List.{get_or_past}
-use Rattle.std.proofs.lemmas.Bool.{le-leb, lt-leb, lt-ltb, le-ltb, eq-eqb, and_left, and_right}
+use Rattle.std.proofs.Common.{◌≡◌, ℕ, suc, ◌+◌, ◌*◌, ◌<◌, ◌≤◌, true, false, ◌&&◌, eqb, List, length, Ok, ap, ◌∙◌, Err, Bool, cond, leb, Result, refl, []}
+use Rattle.std.proofs.lemmas.Bool.{le-leb, lt-leb, lt-ltb, le-ltb, eq-eqb, and_parts, leb-true}
 use Rattle.spans.specs.Kind.{Kind}
-use Rattle.spans.proofs.Sizes.{empty_zero}
-use Rattle.books.specs.Boards.{span_at, Full}
+use Rattle.books.specs.Boards.{Full}
 use Rattle.books.specs.Meaning.{Meaning}
 use Rattle.books.specs.Sweeps.{Outcome, settle}
+use Rattle.engine.specs.declared.refusal.Refusal.{Refusal}
 use Rattle.engine.specs.declared.refusal.Refusal.TheVariants.{TooShort, OtherBook, NoSuchPlace, NothingShared, KeepFull, NoMark}
 use Rattle.engine.specs.Limits.{Limit, shared, cut_one}
-use Rattle.engine.specs.Calls.{Memory, State, refuse, shown, Verdict, denied, judged, open_verdict, limit_verdict, enough, replied, fresh, open_reply, limit_reply, holds, marked, mark_reply, back_to, back_reply, check_answer, lowest}
+use Rattle.engine.specs.Calls.{Memory, State, refuse, shown, Verdict, denied, judged, open_verdict, limit_verdict, enough, replied, fresh, open_reply, limit_reply, holds, marked, mark_reply, back_to, back_reply}
+use Rattle.engine.specs.declared.counts.Counts.{Counts}
+use Rattle.engine.specs.Lent.{lent, memory_checked}
 use Rattle.engine.specs.History.{handed}
 use Rattle.engine.proofs.Verdicts.{whole_full}
 
@@ -31,22 +32,33 @@ module _ {S : Type 0} (kind : Kind S) (book : Meaning S) where
 
 -- ---- memory that is enough, or too short
 
-module _ {S : Type 0} (places rules : ℕ) (m : Memory S) where
-  pub enough_from : places ≤ length m.board → places ≤ length m.working → rules ≤ length m.waiting → enough places rules m ≡ true
+-- what the check of the memory tells
+module _ {S : Type 0} (counts : Counts) (B W : List S) (L : List ℕ) where
+  pub checked_short : (keep : List S) (e : Refusal) → Err e ≡ memory_checked counts B W L → (enough counts.places counts.rules (lent B W L keep) ≡ false) × (e ≡ TooShort)
   unfolding enough
-  enough_from b w l = rw (le-leb places (length m.board) b, le-leb places (length m.working) w, le-leb rules (length m.waiting) l)
+  checked_short keep e h = go (leb counts.places (length B) && leb counts.places (length W) && leb counts.rules (length L)) h
+    where
+      go : (x : Bool) → ◌≡◌ {A = Result (Unit {0}) Refusal} (Err e) (cond x (Ok tt) (Err TooShort)) → (x ≡ false) × (e ≡ TooShort)
+      go true h = cc
+      go false h = (refl, cc)
 
-  pub short_board : length m.board < places → enough places rules m ≡ false
+  pub checked_enough : (keep : List S) → Ok tt ≡ memory_checked counts B W L → enough counts.places counts.rules (lent B W L keep) ≡ true
   unfolding enough
-  short_board h = and_left _ _ (and_left _ _ (lt-leb places (length m.board) h))
+  checked_enough keep h = go (leb counts.places (length B) && leb counts.places (length W) && leb counts.rules (length L)) h
+    where
+      go : (x : Bool) → ◌≡◌ {A = Result (Unit {0}) Refusal} (Ok tt) (cond x (Ok tt) (Err TooShort)) → x ≡ true
+      go true h = refl
+      go false h = cc
 
-  pub short_working : length m.working < places → enough places rules m ≡ false
+  pub enough_long : (keep : List S) → enough counts.places counts.rules (lent B W L keep) ≡ true → (counts.places ≤ length B) × (counts.places ≤ length W) × (counts.rules ≤ length L)
   unfolding enough
-  short_working h = and_left _ _ (and_right _ _ (lt-leb places (length m.working) h))
+  enough_long keep e =
+      let both = and_parts (leb counts.places (length B) && leb counts.places (length W)) (leb counts.rules (length L)) e in
+      let boards = and_parts (leb counts.places (length B)) (leb counts.places (length W)) both.0 in
+      (leb-true _ _ boards.0, leb-true _ _ boards.1, leb-true _ _ both.1)
 
-  pub short_waiting : length m.waiting < rules → enough places rules m ≡ false
-  unfolding enough
-  short_waiting h = and_right _ _ (lt-leb rules (length m.waiting) h)
+  pub checked_long : Ok tt ≡ memory_checked counts B W L → (counts.places ≤ length B) × (counts.places ≤ length W) × (counts.rules ≤ length L)
+  checked_long h = enough_long [] (checked_enough [] h)
 
 -- ---- opening and limit
 
@@ -103,15 +115,3 @@ module _ {S : Type 0} (st : State S) where
   pub back_done : (m : ℕ) → holds st ≡ true → st.marks ≡ suc m → back_reply st ≡ back_to st (suc m)
   unfolding back_reply
   back_done m e z = rw e (ap (back_to st) z)
-
--- ---- finish
-
-module _ {S : Type 0} (kind : Kind S) (st : State S) (list : List ℤ) where
-  pub check_short : (leb st.places (length st.memory.board) && leb st.places (length list)) ≡ false → check_answer kind st list ≡ Err TooShort
-  unfolding check_answer
-  check_short e = rw e
-
--- a place that the board does not reach counts as empty, and finish writes 0 there
-pub lowest_missing : {S : Type 0} (kind : Kind S) (b : List S) (p : ℕ) → length b ≤ p → lowest kind (span_at kind b p) ≡ pos 0
-unfolding lowest
-lowest_missing kind b p h = rw (get_or_past b p kind.none h, eq-eqb (kind.size kind.none) 0 (empty_zero kind kind.none kind.none_admits))

@@ -1,6 +1,8 @@
 -- What the check of finish shows, and what finish writes. Assumes nothing.
-use Rattle.std.proofs.Common.{◌≡◌, ℕ, zero, suc, ◌<◌, ◌≤◌, Bool, true, false, cond, not, ◌&&◌, T, eqb, ltb, leb, List, [], ◌∷◌, length, drop, ℤ, pos, Ok, Err, refl, ap, ◌∙◌, le_of_suc-le-suc, not-suc-le-zero, arith}
-use Rattle.std.proofs.lemmas.Bool.{leb-true, ltb-false, eqb-true, and_parts, not-false}
+use Rattle.std.proofs.Common.{◌≡◌, ℕ, zero, suc, ◌<◌, ◌≤◌, Bool, true, false, cond, not, ◌&&◌, T, eqb, leb, List, [], ◌∷◌, length, drop, ℤ, pos, Some, None, Option, Ok, Err, refl, ap, ◌∙◌, le_of_suc-le-suc, not-suc-le-zero, arith}
+use Rattle.std.proofs.lemmas.Bool.{leb-true, eqb-true, and_parts, not-false}
+use Rattle.std.specs.List.{position}
+use Rattle.std.specs.Option.{option_map_or}
 use Rattle.spans.specs.Kind.{Kind}
 use Rattle.spans.proofs.Sizes.{some_least}
 use Rattle.books.specs.Boards.{span_at, number_at, On}
@@ -8,10 +10,10 @@ use Rattle.books.specs.Meaning.{Meaning, Lawful}
 use Rattle.books.specs.Settled.{Settled}
 use Rattle.engine.specs.declared.refusal.Refusal.TheVariants.{TooShort, NotOneNumber}
 use Rattle.engine.specs.Settling.{Obeys}
-use Rattle.engine.specs.Calls.{State, shown, lowest_with, check_answer, lowest, written}
+use Rattle.engine.specs.Calls.{State, shown, check_answer, lowest, written}
 use Rattle.engine.specs.History.{Granted}
 use Rattle.engine.proofs.Boards.{not_T_of, empty_size}
-use Rattle.engine.proofs.Verdicts.{lowest_none}
+use Rattle.engine.proofs.Verdicts.{none_passes}
 
 module _ {S : Type 0} (kind : Kind S) where
   pub lowest_admitted : (a : S) → 0 < kind.size a → T (kind.admits a (lowest kind a))
@@ -52,23 +54,20 @@ module _ {S : Type 0} (kind : Kind S) where
   pub check_shows : (st : State S) (list : List ℤ) → length (shown st) ≡ st.places → Granted (check_answer kind st list)
       → (st.places ≤ length list) × ((p : ℕ) → p < st.places → kind.size (span_at kind (shown st) p) ≡ 1)
   unfolding check_answer
-  check_shows st list long g = go (leb st.places (length st.memory.board) && leb st.places (length list)) refl (ltb e (length (shown st))) refl g
+  check_shows st list long g = go (leb st.places (length st.memory.board) && leb st.places (length list)) refl (position several (shown st)) refl g
     where
       several : S → Bool
       several = λ a. not (eqb (kind.size a) 1)
 
-      e : ℕ
-      e = lowest_with several (shown st)
-
-      go : (c : Bool) → leb st.places (length st.memory.board) && leb st.places (length list) ≡ c → (d : Bool) → ltb e (length (shown st)) ≡ d
-          → Granted {A = Unit {0}} (cond c (cond d (Err (NotOneNumber e)) (Ok tt)) (Err TooShort))
+      go : (c : Bool) → leb st.places (length st.memory.board) && leb st.places (length list) ≡ c → (o : Option ℕ) → position several (shown st) ≡ o
+          → Granted {A = Unit {0}} (cond c (option_map_or (λ place. Err (NotOneNumber place)) o (Ok tt)) (Err TooShort))
           → (st.places ≤ length list) × ((p : ℕ) → p < st.places → kind.size (span_at kind (shown st) p) ≡ 1)
-      go true u true v g = absurd g
-      go true u false v g = (
+      go true u (Some place) v g = absurd g
+      go true u None v g = (
         leb-true st.places (length list) (and_parts (leb st.places (length st.memory.board)) (leb st.places (length list)) u).1,
-        λ p h. eqb-true (kind.size (span_at kind (shown st) p)) 1 (not-false _ (lowest_none several kind.none (shown st) (ltb-false e (length (shown st)) v) p (rw long h))),
+        λ p h. eqb-true (kind.size (span_at kind (shown st) p)) 1 (not-false _ (none_passes several kind.none (shown st) v p (rw long h))),
       )
-      go false u d v g = absurd g
+      go false u o v g = absurd g
 
 -- a holding on a settled board with one number everywhere obeys the rules
 pub settled_obeys : {S : Type 0} (kind : Kind S) (book : Meaning S) → Lawful kind book → (b : List S) (h : List ℤ) → Settled kind book b

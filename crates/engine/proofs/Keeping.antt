@@ -15,23 +15,23 @@ module _ {S : Type 0} (P : Position) (B W K : List S) (L : List ℕ) where
   -- what the check tells
   pub keep_holds : Ok tt ≡ keep_checked P (length B) (length K) → holds st ≡ true
   unfolding holds
-  keep_holds e = go (leb P.places (length B) && leb (P.marks * P.places) (length K)) e
+  keep_holds e = go (leb P.counts.places (length B) && leb (P.marks * P.counts.places) (length K)) e
     where
       go : (t : Bool) → ◌≡◌ {A = Result (Unit {0}) Refusal} (Ok tt) (cond t (Ok tt) (Err TooShort)) → t ≡ true
       go true e = refl
       go false e = let z : ◌≡◌ {A = ℕ} 0 1 = cc in absurd (omega arith)
 
-  pub keep_board : Ok tt ≡ keep_checked P (length B) (length K) → P.places ≤ length B
+  pub keep_board : Ok tt ≡ keep_checked P (length B) (length K) → P.counts.places ≤ length B
   unfolding holds
-  keep_board e = leb-true _ _ (and_parts (leb P.places (length B)) (leb (P.marks * P.places) (length K)) (keep_holds e)).0
+  keep_board e = leb-true _ _ (and_parts (leb P.counts.places (length B)) (leb (P.marks * P.counts.places) (length K)) (keep_holds e)).0
 
-  pub keep_marks : Ok tt ≡ keep_checked P (length B) (length K) → P.marks * P.places ≤ length K
+  pub keep_marks : Ok tt ≡ keep_checked P (length B) (length K) → P.marks * P.counts.places ≤ length K
   unfolding holds
-  keep_marks e = leb-true _ _ (and_parts (leb P.places (length B)) (leb (P.marks * P.places) (length K)) (keep_holds e)).1
+  keep_marks e = leb-true _ _ (and_parts (leb P.counts.places (length B)) (leb (P.marks * P.counts.places) (length K)) (keep_holds e)).1
 
   short : (e : Refusal) → Err e ≡ keep_checked P (length B) (length K) → (holds st ≡ false) × (e ≡ TooShort)
   unfolding holds
-  short e h = go (leb P.places (length B) && leb (P.marks * P.places) (length K)) h
+  short e h = go (leb P.counts.places (length B) && leb (P.marks * P.counts.places) (length K)) h
     where
       go : (t : Bool) → ◌≡◌ {A = Result (Unit {0}) Refusal} (Err e) (cond t (Ok tt) (Err TooShort)) → (t ≡ false) × (e ≡ TooShort)
       go true h = let z : ◌≡◌ {A = ℕ} 0 1 = cc in absurd (omega arith)
@@ -44,23 +44,23 @@ module _ {S : Type 0} (P : Position) (B W K : List S) (L : List ℕ) where
   back_failed e h = let s = short e h in ap (λ (x : Refusal). refuse x st) s.1 ∙ sym (back_short st s.0)
 
   module _ (ok : Ok tt ≡ keep_checked P (length B) (length K)) where
-    pub marking_full : length K - P.marks * P.places < P.places → ◌≡◌ {A = Reply (Unit {0}) S} (refuse KeepFull st) (mark_reply st)
+    pub marking_full : length K - P.marks * P.counts.places < P.counts.places → ◌≡◌ {A = Reply (Unit {0}) S} (refuse KeepFull st) (mark_reply st)
     marking_full h = sym (mark_full st (keep_holds ok) (omega (arith, keep_marks ok)))
 
-    pub marking : (K' : List S) → P.places ≤ length K - P.marks * P.places
-        → K' ≡ take (P.marks * P.places) K ++ (take P.places B ++ drop (P.marks * P.places + P.places) K)
-        → ◌≡◌ {A = Reply (Unit {0}) S} (record { answer = Ok tt; state = record { places = P.places; rules = P.rules; marks = P.marks + 1; memory = lent B W L K' } }) (mark_reply st)
+    pub marking : (K' : List S) → P.counts.places ≤ length K - P.marks * P.counts.places
+        → K' ≡ take (P.marks * P.counts.places) K ++ (take P.counts.places B ++ drop (P.marks * P.counts.places + P.counts.places) K)
+        → ◌≡◌ {A = Reply (Unit {0}) S} (record { answer = Ok tt; state = record { places = P.counts.places; rules = P.counts.rules; marks = P.marks + 1; memory = lent B W L K' } }) (mark_reply st)
     unfolding marked shown
     marking K' h e =
-        ap₂ (λ (m : ℕ) (k : List S). record { answer = Ok tt; state = record { places = P.places; rules = P.rules; marks = m; memory = lent B W L k } }) (add-one P.marks) e
+        ap₂ (λ (m : ℕ) (k : List S). record { answer = Ok tt; state = record { places = P.counts.places; rules = P.counts.rules; marks = m; memory = lent B W L k } }) (add-one P.marks) e
         ∙ sym (mark_done st (keep_holds ok) (omega (arith, keep_marks ok)))
 
     pub backing_none : P.marks ≡ 0 → ◌≡◌ {A = Reply (Unit {0}) S} (refuse NoMark st) (back_reply st)
     backing_none e = sym (back_none st (keep_holds ok) e)
 
-    pub backing : (B' : List S) → (P.marks ≡ 0 → ⊥) → B' ≡ take P.places (drop ((P.marks - 1) * P.places) K) ++ drop P.places B
-        → ◌≡◌ {A = Reply (Unit {0}) S} (record { answer = Ok tt; state = record { places = P.places; rules = P.rules; marks = P.marks - 1; memory = lent B' W L K } }) (back_reply st)
+    pub backing : (B' : List S) → (P.marks ≡ 0 → ⊥) → B' ≡ take P.counts.places (drop ((P.marks - 1) * P.counts.places) K) ++ drop P.counts.places B
+        → ◌≡◌ {A = Reply (Unit {0}) S} (record { answer = Ok tt; state = record { places = P.counts.places; rules = P.counts.rules; marks = P.marks - 1; memory = lent B' W L K } }) (back_reply st)
     unfolding back_to
     backing B' some e =
-        ap (λ (b : List S). record { answer = Ok tt; state = record { places = P.places; rules = P.rules; marks = P.marks - 1; memory = lent b W L K } }) e
+        ap (λ (b : List S). record { answer = Ok tt; state = record { places = P.counts.places; rules = P.counts.rules; marks = P.marks - 1; memory = lent b W L K } }) e
         ∙ sym (back_done st (P.marks - 1) (keep_holds ok) (omega arith))

@@ -1,7 +1,5 @@
 pub mod Visiting
 pub mod Falling
-pub mod Filling
-pub mod Lowest
 pub mod Boards
 pub mod Cuts
 pub mod Among

@@ -1,7 +1,12 @@
 -- The verdicts of opening and limit: the board allowed is the widest settled one, and where they deny there is none. Assumes nothing.
-use Rattle.std.proofs.Common.{◌≡◌, ℕ, zero, suc, ◌<◌, ◌≤◌, Bool, true, false, cond, eqb, ltb, List, [], ◌∷◌, length, get_or, ℤ, refl, ap, inl, inr, le_of_suc-le-suc, not-suc-le-zero, arith}
+use Rattle.std.proofs.Common.{◌≡◌, ℕ, ◌<◌, Bool, true, false, cond, eqb, ltb, List, [], ◌∷◌, length, get_or, ℤ, Some, None, Option, sym, refl, ap, inl, inr, arith}
 use Rattle.std.proofs.lemmas.List.{get_or-set_same}
-use Rattle.std.proofs.lemmas.Bool.{ltb-true, ltb-false}
+use Rattle.std.proofs.lemmas.List.Quantifiers.{position-Some}
+use Rattle.std.proofs.lemmas.List.Sums.{fails_before_first}
+use Rattle.std.proofs.lemmas.Option.{none-some}
+use Rattle.std.proofs.lemmas.Bool.{ltb-false}
+use Rattle.std.specs.List.{position, position_or_len}
+use Rattle.std.specs.Option.{option_map_or}
 use Rattle.spans.specs.Kind.{Kind}
 use Rattle.books.specs.Boards.{span_at, number_at, Full, Inside, On}
 use Rattle.books.specs.Meaning.{Meaning, Lawful}
@@ -10,35 +15,18 @@ use Rattle.books.specs.Sweeps.{Outcome, emptied, left, settle}
 use Rattle.engine.specs.declared.refusal.Refusal.TheVariants.{EmptySpan, NothingShared}
 use Rattle.engine.specs.Limits.{Limit, shared, cut_one, cut}
 use Rattle.engine.specs.Settling.{Obeys}
-use Rattle.engine.specs.Calls.{lowest_with, Verdict, denied, allowed, judged, whole, open_verdict, limit_verdict}
+use Rattle.engine.specs.Calls.{Verdict, denied, allowed, judged, whole, open_verdict, limit_verdict}
 use Rattle.engine.proofs.Boards.{empty_size, some_size, within_some, meet_both, full_set, on_set}
 use Rattle.engine.proofs.Cuts.{Ranged, cut_length, cut_one_left, cut_one_right, cut_one_both}
 use Rattle.engine.proofs.Sweeping.{GoodEnd, settle_good}
 
--- the lowest place whose span passes a test
-module _ {S : Type 0} (test : S → Bool) (d : S) where
-  -- if it is past the board, no span passes
-  pub lowest_none : (b : List S) → length b ≤ lowest_with test b → (p : ℕ) → p < length b → test (get_or b p d) ≡ false
-  unfolding lowest_with
-  lowest_none [] h p l = absurd (not-suc-le-zero l)
-  lowest_none (a ∷ b) h p l = go (test a) refl (λ h' p' l'. lowest_none b h' p' l') h p l
-    where
-      go : (e : Bool) → test a ≡ e → (length b ≤ lowest_with test b → (p' : ℕ) → p' < length b → test (get_or b p' d) ≡ false)
-          → suc (length b) ≤ cond e 0 (suc (lowest_with test b)) → (p : ℕ) → p < suc (length b) → test (get_or (a ∷ b) p d) ≡ false
-      go true e ih h p l = absurd (not-suc-le-zero h)
-      go false e ih h zero l = e
-      go false e ih h (suc p) l = ih (le_of_suc-le-suc h) p (le_of_suc-le-suc l)
-
-  -- if it is on the board, its span passes
-  pub lowest_passes : (b : List S) → lowest_with test b < length b → test (get_or b (lowest_with test b) d) ≡ true
-  unfolding lowest_with
-  lowest_passes [] h = absurd (not-suc-le-zero h)
-  lowest_passes (a ∷ b) h = go (test a) refl (λ h'. lowest_passes b h') h
-    where
-      go : (e : Bool) → test a ≡ e → (lowest_with test b < length b → test (get_or b (lowest_with test b) d) ≡ true)
-          → cond e 0 (suc (lowest_with test b)) < suc (length b) → test (get_or (a ∷ b) (cond e 0 (suc (lowest_with test b))) d) ≡ true
-      go true e ih h = e
-      go false e ih h = ih (le_of_suc-le-suc h)
+-- where no span of a board passes a test
+pub none_passes : {S : Type 0} (test : S → Bool) (d : S) (b : List S) → position test b ≡ None → (p : ℕ) → p < length b → test (get_or b p d) ≡ false
+none_passes test d b e p l = go (ltb (position_or_len test b) (length b)) refl e
+  where
+    go : (x : Bool) → ltb (position_or_len test b) (length b) ≡ x → cond x (Some (position_or_len test b)) None ≡ None → test (get_or b p d) ≡ false
+    go true h e = absurd (none-some _ (sym e))
+    go false h e = fails_before_first test b p d (omega (arith, ltb-false _ _ h))
 
 module _ {S : Type 0} (kind : Kind S) (book : Meaning S) where
   -- a board is what an opening board and the limits of a roll come to
@@ -51,27 +39,25 @@ module _ {S : Type 0} (kind : Kind S) (book : Meaning S) where
   GoodVerdict opening roll (denied refusal) = ¬ SomeSettled kind book (cut kind opening roll)
   GoodVerdict opening roll (allowed b strikes) = Stands opening roll b
 
-  -- the lowest place with an empty span
-  abbrev pub hole : List S → ℕ
-  hole b = lowest_with (λ span. eqb (kind.size span) 0) b
+  -- an empty span
+  abbrev pub hollow : S → Bool
+  hollow span = eqb (kind.size span) 0
 
   -- a board with no empty span is not refused for one
   pub whole_full : (b : List S) (v : Verdict S) → Full kind book.places b → whole kind b v ≡ v
   unfolding whole
-  whole_full b v f = go (ltb (hole b) (length b)) refl
+  whole_full b v f = go (position hollow b) refl
     where
-      go : (e : Bool) → ltb (hole b) (length b) ≡ e → cond e (denied (EmptySpan (hole b))) v ≡ v
-      go true e =
-          let h : hole b < length b = ltb-true (hole b) (length b) e in
-          let z = empty_size kind _ (lowest_passes (λ span. eqb (kind.size span) 0) kind.none b h) in
-          let s = f.some (hole b) (rw f.long at h) in
-          absurd (omega (arith, z, s))
-      go false e = refl
+      go : (o : Option ℕ) → position hollow b ≡ o → option_map_or (λ place. denied (EmptySpan place)) o v ≡ v
+      go (Some p) e =
+          let q = position-Some hollow b p kind.none e in
+          absurd (omega (arith, empty_size kind _ q.1, f.some p (rw f.long at q.0)))
+      go None e = refl
 
   module _ (law : Lawful kind book) where
     pub open_good : (o : List S) → length o ≡ book.places → GoodVerdict o [] (open_verdict kind book o)
     unfolding open_verdict whole cut
-    open_good o long = go (ltb (hole o) (length o)) refl
+    open_good o long = go (position hollow o) refl
       where
         end : (u : Outcome S) → GoodEnd kind book o 0 u → GoodVerdict o [] (judged u)
         end (emptied p r) g = g.no_settled
@@ -81,18 +67,12 @@ module _ {S : Type 0} (kind : Kind S) (book : Meaning S) where
           holdings = g.narrowed.holdings;
         }
 
-        go : (e : Bool) → ltb (hole o) (length o) ≡ e → GoodVerdict o [] (cond e (denied (EmptySpan (hole o))) (judged (settle kind book o)))
-        go true e = λ s.
-            let h : hole o < length o = ltb-true (hole o) (length o) e in
-            let z = empty_size kind _ (lowest_passes (λ span. eqb (kind.size span) 0) kind.none o h) in
-            let w = within_some kind (span_at kind s.0 (hole o)) (span_at kind o (hole o)) (s.2 (hole o) (rw long at h)) (s.1.full.some (hole o) (rw long at h)) in
-            omega (arith, z, w)
-        go false e =
-            let h : length o ≤ hole o = ltb-false (hole o) (length o) e in
-            end (settle kind book o) (settle_good kind book law o (record {
-              long = long;
-              some = λ p l. some_size kind _ (lowest_none (λ span. eqb (kind.size span) 0) kind.none o h p (rw long l));
-            }))
+        go : (place : Option ℕ) → position hollow o ≡ place → GoodVerdict o [] (option_map_or (λ p. denied (EmptySpan p)) place (judged (settle kind book o)))
+        go (Some p) e = λ s.
+            let q = position-Some hollow o p kind.none e in
+            let w = within_some kind (span_at kind s.0 p) (span_at kind o p) (s.2 p (rw long at q.0)) (s.1.full.some p (rw long at q.0)) in
+            omega (arith, empty_size kind _ q.1, w)
+        go None e = end (settle kind book o) (settle_good kind book law o (record { long = long; some = λ p l. some_size kind _ (none_passes hollow kind.none o e p (rw long l)) }))
 
     module _ (o : List S) (long : length o ≡ book.places) (roll : List (Limit S)) (b : List S) (st : Stands o roll b) (l : Limit S) (here : l.place < book.places) where
       board_here : l.place < length b

@@ -1,7 +1,7 @@
 -- The waiting list, entry by entry. Assumes nothing.
-use Rattle.std.proofs.Common.{◌≡◌, ℕ, ◌-◌, ◌<◌, ◌≤◌, Bool, true, false, cond, ◌⊎◌, List, length, get_or, drop, replicate, sym, ap, ◌∙◌, inl, inr, arith, length-append, length-drop}
+use Rattle.std.proofs.Common.{◌≡◌, ℕ, ◌-◌, ◌<◌, ◌≤◌, Bool, true, false, cond, ◌⊎◌, List, length, ◌++◌, get_or, take, drop, replicate, sym, ap, ◌∙◌, inl, inr, arith, length-append, length-drop}
 use lib.ListN.{length-replicate}
-use Rattle.std.proofs.lemmas.List.{ext_get_or, get_or-replicate, get_or_append_left, get_or-append_right, get_or-drop}
+use Rattle.std.proofs.lemmas.List.{ext_get_or, get_or-replicate, get_or_append_left, get_or-append_right, get_or-drop, length-take-le}
 use Rattle.std.proofs.lemmas.Bool.{cases_lt}
 use Rattle.books.specs.Boards.{has}
 use Rattle.books.specs.Meaning.{Meaning}
@@ -34,6 +34,11 @@ module _ (rules value : ℕ) (ws : List ℕ) (h : rules ≤ length ws) where
       go : (k : ℕ) → (k < rules) ⊎ (rules ≤ k) → get_or vs k 0 ≡ get_or (filled rules value ws) k 0
       go k (inl l) = f k l ∙ sym (filled_rule k l)
       go k (inr l) = g k l ∙ sym (filled_rest k l)
+
+-- a front of that many entries, filled by itself
+pub filled_front : (rules n value : ℕ) (ws front : List ℕ) → n ≡ rules → rules ≤ length ws → front ≡ replicate (length (take n ws)) value → front ++ drop n ws ≡ filled rules value ws
+unfolding filled
+filled_front rules n value ws front e h f = rw (f, e, length-take-le rules ws h)
 
 -- a rule that does not wait after waking has not the place, and did not wait before
 pub asleep : {S : Type 0} (book : Meaning S) (p : ℕ) (ws : List ℕ) (r : ℕ) → r < book.rules → book.rules ≤ length ws → get_or (woken book p ws) r 0 ≡ 0

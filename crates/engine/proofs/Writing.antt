@@ -1,89 +1,46 @@
 -- The list that finish writes, entry by entry. Assumes nothing.
-use Rattle.std.proofs.Common.{◌≡◌, ℕ, ◌+◌, ◌<◌, ◌≤◌, Bool, true, false, cond, not, eqb, ltb, ◌⊎◌, List, length, get_or, take, set, ℤ, pos, Some, None, Ok, Err, sym, refl, ap, ◌∙◌, ap₂, inl, inr, arith, length-set}
-use Rattle.std.proofs.lemmas.List.{ext_get_or, get_or-set_same, get_or-set_other, get_or_default, length-take-le}
-use Rattle.std.proofs.lemmas.Bool.{cases_eq, cases_lt, cond-true, cond-false, and_left, and_right, and_from, le-leb, lt-leb, lt-ltb, le-ltb}
+use Rattle.std.proofs.Common.{◌≡◌, ℕ, ◌-◌, ◌<◌, ◌≤◌, min, true, false, cond, eqb, ◌⊎◌, List, ◌++◌, length, get_or, take, drop, ℤ, pos, Some, None, Option, Bor, sym, refl, ap, ◌∙◌, inl, inr, arith, length-append, length-drop}
+use Rattle.std.specs.Option.{option_map, unwrap_or, MatchOption}
+use Rattle.std.proofs.lemmas.List.{ext_get_or, get_or_append_left, get_or-append_right, get_or-drop, length-take-le}
+use Rattle.std.proofs.lemmas.Bool.{cases_lt, eq-eqb}
 use Rattle.spans.specs.Kind.{Kind, least_of}
+use Rattle.spans.proofs.Sizes.{empty_zero}
 use Rattle.books.specs.Boards.{span_at}
-use Rattle.engine.specs.declared.refusal.Refusal.TheVariants.{TooShort, NotOneNumber}
-use Rattle.engine.specs.declared.position.Position.{Position}
-use Rattle.engine.specs.Calls.{lowest_with, shown, check_answer, lowest, written}
-use Rattle.engine.specs.Lent.{at}
-use Rattle.engine.proofs.Exits.{check_short}
+use Rattle.engine.specs.Calls.{lowest, written}
 use Rattle.engine.proofs.Finishing.{written_length, written_at, written_rest}
 
 module _ {S : Type 0} (kind : Kind S) (board : List S) where
-  -- the entries below i are written, the others stay
+  -- the entries below i are written
   pub record Below (i : ℕ) (old new : List ℤ) : Type 0 where
     pub long : length new ≡ length old
     pub done : (k : ℕ) → k < i → get_or new k (pos 0) ≡ lowest kind (span_at kind board k)
-    pub rest : (k : ℕ) → i ≤ k → get_or new k (pos 0) ≡ get_or old k (pos 0)
 
-  pub below_none : (list : List ℤ) → Below 0 list list
-  below_none list = record { long = refl; done = λ k h. absurd (omega arith); rest = λ k h. refl }
-
-  pub below_more : (i : ℕ) (old new : List ℤ) (x : ℤ) → Below i old new → i < length old → x ≡ lowest kind (span_at kind board i) → Below (i + 1) old (set new i x)
-  below_more i old new x b h e = record {
-    long = length-set new i x ∙ b.long;
-    done = λ k l. done k l (cases_eq k i);
-    rest = λ k l. get_or-set_other new i k x (pos 0) (λ z. omega arith) ∙ b.rest k (omega arith);
-  }
+  -- a front of the list with every entry written, as far as there are places, and the rest as it was
+  pub written_front : (places n i : ℕ) (list front : List ℤ) → n ≡ min places (length list) → n ≤ i → Below i (take n list) front → front ++ drop n list ≡ written kind places board list
+  written_front places n i list front e all b = ext_get_or (pos 0) (front ++ drop n list) (written kind places board list) (same_length ∙ sym (written_length kind places board list)) (λ k l. each k l (cases_lt k n))
     where
-      done : (k : ℕ) → k < i + 1 → (k ≡ i) ⊎ (k ≡ i → ⊥) → get_or (set new i x) k (pos 0) ≡ lowest kind (span_at kind board k)
-      done k l (inl z) = ap (λ (j : ℕ). get_or (set new i x) j (pos 0)) z ∙ get_or-set_same new i x (pos 0) (omega (arith, b.long)) ∙ e ∙ ap (λ (j : ℕ). lowest kind (span_at kind board j)) (sym z)
-      done k l (inr z) = get_or-set_other new i k x (pos 0) z ∙ b.done k (omega arith)
+      long : length front ≡ n
+      long = b.long ∙ length-take-le n list (omega arith)
 
-  pub below_all : (places i : ℕ) (old new : List ℤ) → i ≤ places → ((k : ℕ) → i ≤ k → k < places → length old ≤ k) → Below i old new → new ≡ written kind places board old
-  below_all places i old new h reach b = ext_get_or (pos 0) new (written kind places board old) (b.long ∙ sym (written_length kind places board old)) (λ k l. each k l (cases_lt k i) (cases_lt k places))
+      same_length : length (front ++ drop n list) ≡ length list
+      same_length = rw (length-append front (drop n list), length-drop n list) (omega (arith, long))
+
+      each : (k : ℕ) → k < length (front ++ drop n list) → (k < n) ⊎ (n ≤ k) → get_or (front ++ drop n list) k (pos 0) ≡ get_or (written kind places board list) k (pos 0)
+      each k l (inl h) = get_or_append_left front (drop n list) (pos 0) k (omega (arith, long)) ∙ b.done k (omega arith) ∙ sym (written_at kind places board list k (omega arith) (omega arith))
+      each k l (inr h) =
+          get_or-append_right front (drop n list) n k (pos 0) long h ∙ get_or-drop n list (k - n) (pos 0) ∙ ap (λ (j : ℕ). get_or list j (pos 0)) (omega arith)
+          ∙ sym (written_rest kind places board list k (omega (arith, same_length)))
+
+  -- the least number of the span at a place, if the board has the place and the span a number
+  pub least_found : (place : ℕ) (found : Option (Bor S)) (r : Option ℤ) → unwrap_or (option_map (λ x. x.now) found) kind.none ≡ span_at kind board place
+      → MatchOption found (r ≡ None) (λ x. r ≡ least_of kind x.now) → unwrap_or r (pos 0) ≡ lowest kind (span_at kind board place)
+  unfolding lowest
+  least_found place found r e m = go found e m ∙ ap (λ (s : S). cond (eqb (kind.size s) 0) (pos 0) (kind.least s)) e
     where
-      each : (k : ℕ) → k < length new → (k < i) ⊎ (i ≤ k) → (k < places) ⊎ (places ≤ k) → get_or new k (pos 0) ≡ get_or (written kind places board old) k (pos 0)
-      each k l (inl d) p = b.done k d ∙ sym (written_at kind places board old k (omega arith) (omega (arith, b.long)))
-      each k l (inr d) (inl p) = absurd (omega (arith, reach k d p, b.long))
-      each k l (inr d) (inr p) = b.rest k d ∙ sym (written_rest kind places board old k p)
+      least : (s : S) → unwrap_or (least_of kind s) (pos 0) ≡ cond (eqb (kind.size s) 0) (pos 0) (kind.least s)
+      least s = elim (eqb (kind.size s) 0) as (λ b. unwrap_or (cond b None (Some (kind.least s))) (pos 0) ≡ cond b (pos 0) (kind.least s)) [ true ↦ refl | false ↦ refl ]
 
-  -- the least number of a span that was read
-  module _ (place : ℕ) (within : place < length board) (span : S) (read : span ≡ get_or board place span) where
-    here : span ≡ span_at kind board place
-    here = read ∙ get_or_default board place span kind.none within
-
-    pub lowest_some : (x : ℤ) → Some x ≡ least_of kind span → x ≡ lowest kind (span_at kind board place)
-    unfolding lowest
-    lowest_some x e = go (eqb (kind.size span) 0) refl e ∙ ap (λ (s : S). cond (eqb (kind.size s) 0) (pos 0) (kind.least s)) here
-      where
-        go : (t : Bool) → eqb (kind.size span) 0 ≡ t → Some x ≡ cond t None (Some (kind.least span)) → x ≡ cond (eqb (kind.size span) 0) (pos 0) (kind.least span)
-        go true h e = let z : ◌≡◌ {A = ℕ} 0 1 = cc in absurd (omega arith)
-        go false h e = let same : x ≡ kind.least span = cc in same ∙ sym (cond-false _ _ _ h)
-
-    pub lowest_nothing : None ≡ least_of kind span → pos 0 ≡ lowest kind (span_at kind board place)
-    unfolding lowest
-    lowest_nothing e = go (eqb (kind.size span) 0) refl e ∙ ap (λ (s : S). cond (eqb (kind.size s) 0) (pos 0) (kind.least s)) here
-      where
-        go : (t : Bool) → eqb (kind.size span) 0 ≡ t → None ≡ cond t None (Some (kind.least span)) → pos 0 ≡ cond (eqb (kind.size span) 0) (pos 0) (kind.least span)
-        go true h e = sym (cond-true _ _ _ h)
-        go false h e = let z : ◌≡◌ {A = ℕ} 0 1 = cc in absurd (omega arith)
-
--- the check of finish, in what the code holds
-module _ {S : Type 0} (kind : Kind S) (P : Position) (B W K : List S) (L : List ℕ) (list : List ℤ) where
-  pub checking_board : length B < P.places → Err TooShort ≡ check_answer kind (at P B W L K) list
-  checking_board h = sym (check_short kind (at P B W L K) list (and_left _ _ (lt-leb P.places (length B) h)))
-
-  pub checking_list : length list < P.places → Err TooShort ≡ check_answer kind (at P B W L K) list
-  checking_list h = sym (check_short kind (at P B W L K) list (and_right _ _ (lt-leb P.places (length list) h)))
-
-  module _ (b : P.places ≤ length B) (l : P.places ≤ length list) (several n : ℕ) (whole : n ≡ P.places) (is : several ≡ lowest_with (λ span. not (eqb (kind.size span) 1)) (take n B)) where
-    long : length (take P.places B) ≡ P.places
-    long = length-take-le P.places B b
-
-    there : several ≡ lowest_with (λ span. not (eqb (kind.size span) 1)) (take P.places B)
-    there = is ∙ ap (λ (m : ℕ). lowest_with (λ span. not (eqb (kind.size span) 1)) (take m B)) whole
-
-    decided : check_answer kind (at P B W L K) list ≡ cond (ltb several P.places) (Err (NotOneNumber several)) (Ok tt)
-    unfolding check_answer shown
-    decided =
-        cond-true _ _ _ (and_from _ _ (le-leb P.places (length B) b) (le-leb P.places (length list) l))
-        ∙ ap₂ (λ (s m : ℕ). cond (ltb s m) (Err (NotOneNumber s)) (Ok tt)) (sym there) long
-
-    pub checking_several : several < P.places → Err (NotOneNumber several) ≡ check_answer kind (at P B W L K) list
-    checking_several h = sym (decided ∙ cond-true _ _ _ (lt-ltb several P.places h))
-
-    pub checking_ready : P.places ≤ several → Ok tt ≡ check_answer kind (at P B W L K) list
-    checking_ready h = sym (decided ∙ cond-false _ _ _ (le-ltb several P.places h))
+      go : (o : Option (Bor S)) → unwrap_or (option_map (λ x. x.now) o) kind.none ≡ span_at kind board place → MatchOption o (r ≡ None) (λ x. r ≡ least_of kind x.now)
+          → unwrap_or r (pos 0) ≡ cond (eqb (kind.size (unwrap_or (option_map (λ x. x.now) o) kind.none)) 0) (pos 0) (kind.least (unwrap_or (option_map (λ x. x.now) o) kind.none))
+      go None e m = rw (m, eq-eqb (kind.size kind.none) 0 (empty_zero kind kind.none kind.none_admits))
+      go (Some x) e m = rw m (least x.now)

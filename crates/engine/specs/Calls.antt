@@ -1,5 +1,7 @@
 -- The calls on a position: what each answers, and every piece of memory after it. Assumes nothing.
-use Rattle.std.specs.Prelude.{ℕ, zero, suc, ◌+◌, ◌*◌, Bool, cond, not, ◌&&◌, leb, List, [], ◌∷◌, ◌++◌, length, take, drop, ℤ, pos, Ok, Err, Result, ◌==◌, nat_eq, nat_le, nat_lt}
+use Rattle.std.specs.Prelude.{ℕ, zero, suc, ◌+◌, ◌*◌, Bool, cond, not, ◌&&◌, leb, List, [], ◌∷◌, ◌++◌, length, take, drop, ℤ, pos, Ok, Err, Result, ◌==◌, nat_le, nat_lt}
+use Rattle.std.specs.List.{position}
+use Rattle.std.specs.Option.{option_map_or}
 use Rattle.spans.specs.Kind.{Kind}
 use Rattle.books.specs.Boards.{span_at}
 use Rattle.books.specs.Meaning.{Meaning}
@@ -36,11 +38,6 @@ refuse refusal st = record { answer = Err refusal; state = st }
 unfoldable pub shown : {S : Type 0} → State S → List S
 shown st = take st.places st.memory.board
 
--- the lowest place whose span passes a test; the number of places if none does
-unfoldable pub lowest_with : {S : Type 0} → (S → Bool) → List S → ℕ
-lowest_with test [] = 0
-lowest_with test (span ∷ board) = cond (test span) 0 (suc (lowest_with test board))
-
 -- ---- opening and limit
 
 -- what the settling of a call comes to: a refusal, or a settled board after so many strikes
@@ -56,9 +53,7 @@ judged (left board strikes) = allowed board strikes
 module _ {S : Type 0} (kind : Kind S) where
   -- an empty span on the board refuses, at the lowest such place
   unfoldable pub whole : List S → Verdict S → Verdict S
-  whole board verdict =
-      let place = lowest_with (λ span. nat_eq (kind.size span) 0) board in
-      cond (nat_lt place (length board)) (denied (EmptySpan place)) verdict
+  whole board verdict = option_map_or (λ place. denied (EmptySpan place)) (position (λ span. kind.size span == 0) board) verdict
 
   -- opening settles the board
   unfoldable pub open_verdict : Meaning S → List S → Verdict S
@@ -166,8 +161,7 @@ module _ {S : Type 0} (kind : Kind S) where
   -- the check of finish, which changes nothing: too short board or list, and then the lowest place without exactly one number
   unfoldable pub check_answer : State S → List ℤ → Result (Unit {0}) Refusal
   check_answer st list =
-      let place = lowest_with (λ span. not (kind.size span == 1)) (shown st) in
-      let ready = cond (nat_lt place (length (shown st))) (Err (NotOneNumber place)) (Ok tt) in
+      let ready = option_map_or (λ place. Err (NotOneNumber place)) (position (λ span. not (kind.size span == 1)) (shown st)) (Ok tt) in
       cond (nat_le st.places (length st.memory.board) && nat_le st.places (length list)) ready (Err TooShort)
 
   -- the number that finish writes for a span: the least, or 0 where it is empty

@@ -1,14 +1,17 @@
 -- What the code's calls come to, in the pieces that are lent to them. Assumes nothing.
-use Rattle.std.specs.Prelude.{◌≡◌, ℕ, ◌*◌, cond, ◌&&◌, List, [], length, ℤ, Ok, Err, Result, ◌==◌, nat_eq, nat_le, nat_lt}
+use Rattle.std.specs.Prelude.{◌≡◌, ℕ, ◌*◌, cond, ◌&&◌, List, [], ℤ, Ok, Err, Result, ◌==◌, nat_le, nat_lt}
+use Rattle.std.specs.List.{position}
+use Rattle.std.specs.Option.{option_map_or}
 use Rattle.books.specs.Meaning.{Meaning}
 use Rattle.spans.specs.Kind.{Kind}
 use Rattle.engine.specs.declared.sweep.EmptiedBy.{EmptiedBy}
 use Rattle.engine.specs.declared.refusal.Refusal.{Refusal}
 use Rattle.engine.specs.declared.refusal.Refusal.TheVariants.{TooShort, OtherBook, NoSuchPlace, EmptySpan}
+use Rattle.engine.specs.declared.counts.Counts.{Counts}
 use Rattle.engine.specs.declared.position.Position.{Position}
 use Rattle.engine.specs.declared.position.opening.Opened.{Opened}
 use Rattle.engine.specs.Limits.{Limit}
-use Rattle.engine.specs.Calls.{Memory, State, Reply, Verdict, denied, allowed, lowest_with, enough, fresh, open_reply, limit_reply, mark_reply, back_reply, check_answer, finish_list}
+use Rattle.engine.specs.Calls.{Memory, State, Reply, Verdict, denied, allowed, enough, fresh, open_reply, limit_reply, mark_reply, back_reply, check_answer, finish_list}
 use Rattle.engine.specs.Skims.{Skim, halted, onward}
 
 -- how a sweep ended, by its answer and by the board and the waiting list that it left
@@ -18,9 +21,7 @@ skim_told (Err by) board waiting = halted by.place by.rule
 
 -- refused at the lowest empty span of a board, if it has one
 abbrev pub empty_told : {S : Type 0} → Kind S → List S → Result (Unit {0}) Refusal
-empty_told kind board =
-    let place = lowest_with (λ span. nat_eq (kind.size span) 0) board in
-    cond (nat_lt place (length board)) (Err (EmptySpan place)) (Ok tt)
+empty_told kind board = option_map_or (λ place. Err (EmptySpan place)) (position (λ span. kind.size span == 0) board) (Ok tt)
 
 -- the answer of a verdict
 abbrev pub verdict_answer : {S : Type 0} → Verdict S → Result ℕ Refusal
@@ -38,18 +39,26 @@ lent board working waiting keep = record { board = board; working = working; wai
 
 -- the state that a position makes with them
 abbrev pub at : {S : Type 0} → Position → List S → List S → List ℕ → List S → State S
-at position board working waiting keep = record { places = position.places; rules = position.rules; marks = position.marks; memory = lent board working waiting keep }
+at position board working waiting keep = record { places = position.counts.places; rules = position.counts.rules; marks = position.marks; memory = lent board working waiting keep }
 
 -- what an opening came to: a position with its memory; or, refused, the memory alone
 abbrev pub opened : {S : Type 0} → Meaning S → Result Opened Refusal → Memory S → Reply ℕ S
 opened book (Ok o) m = record { answer = Ok o.strikes; state = at o.position m.board m.working m.waiting m.keep }
 opened book (Err refusal) m = record { answer = Err refusal; state = fresh book m }
 
+-- the counts of a book
+abbrev pub counted : {S : Type 0} → Meaning S → Counts
+counted book = record { places = book.places; rules = book.rules }
+
+-- the check of the memory that opening and limit settle in
+abbrev pub memory_checked : {S : Type 0} → Counts → List S → List S → List ℕ → Result (Unit {0}) Refusal
+memory_checked counts board working waiting = cond (enough counts.places counts.rules (lent board working waiting [])) (Ok tt) (Err TooShort)
+
 -- the checks of a limit that come before the board is looked at
 abbrev pub limit_checked : {S : Type 0} → Position → Meaning S → ℕ → List S → List S → List ℕ → Result (Unit {0}) Refusal
 limit_checked position book place board working waiting =
-    cond (enough position.places position.rules (lent board working waiting []))
-    (cond (book.places == position.places && book.rules == position.rules) (cond (nat_lt place position.places) (Ok tt) (Err (NoSuchPlace place))) (Err OtherBook))
+    cond (enough position.counts.places position.counts.rules (lent board working waiting []))
+    (cond (book.places == position.counts.places && book.rules == position.counts.rules) (cond (nat_lt place position.counts.places) (Ok tt) (Err (NoSuchPlace place))) (Err OtherBook))
     (Err TooShort)
 
 module _ {S : Type 0} (kind : Kind S) where
@@ -73,7 +82,7 @@ module _ {S : Type 0} (kind : Kind S) where
 
 -- the check of mark and back: a board of so many spans, and a keep of so many
 abbrev pub keep_checked : Position → ℕ → ℕ → Result (Unit {0}) Refusal
-keep_checked position board keep = cond (nat_le position.places board && nat_le (position.marks * position.places) keep) (Ok tt) (Err TooShort)
+keep_checked position board keep = cond (nat_le position.counts.places board && nat_le (position.marks * position.counts.places) keep) (Ok tt) (Err TooShort)
 
 -- mark answers, counts its marks and leaves board and keep as its definition says, whatever the rest of the memory holds
 abbrev pub MarkCall : {S : Type 0} → Position → List S → List S → Result (Unit {0}) Refusal → Position → List S → Type 0

@@ -37,12 +37,5 @@ refusal_place (NotOneNumber place) = place
 
 -- the rule named
 abbrev pub refusal_rule : Refusal → ℕ
-refusal_rule TooShort = rule_none
-refusal_rule OtherBook = rule_none
-refusal_rule (NoSuchPlace place) = rule_none
-refusal_rule (EmptySpan place) = rule_none
-refusal_rule (NothingShared place) = rule_none
 refusal_rule (Emptied place rule) = rule
-refusal_rule KeepFull = rule_none
-refusal_rule NoMark = rule_none
-refusal_rule (NotOneNumber place) = rule_none
+refusal_rule _ = rule_none

@@ -1,6 +1,7 @@
 // The engine: calls on a position, for every kind of span and every rule book.
 #![tactic(auto)]
 
+mod counts;
 mod keep;
 pub mod laws;
 pub mod position;

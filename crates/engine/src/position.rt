@@ -1,7 +1,7 @@
 // A position, which the calls of a game go by.
 ghost use Rattle.std.specs.Prelude.{◌≤◌};
 
-use books::{Place, RuleNumber};
+use crate::counts::Counts;
 
 pub mod finish;
 pub mod limits;
@@ -9,11 +9,11 @@ pub mod marks;
 pub mod opening;
 mod settling;
 
-// The counts of a position: its places, its rules and its standing marks. Only a granted opening makes one, and it is no copy of another.
+// The counts of the book that it was opened with, and how many marks stand. Only a granted opening makes a position, and it is no
+// copy of another.
 #[derive(Drop)]
 pub struct Position {
-    places: Place,
-    rules: RuleNumber,
+    counts: Counts,
     marks: usize,
-    ghost some: { 1 ≤ places },
+    ghost some: { 1 ≤ counts.places },
 }

@@ -34,48 +34,38 @@ impl Refusal {
     {
         match self {
             Refusal::TooShort => 12,
-            Refusal::OtherBook => 20,
             Refusal::NoSuchPlace { .. } => 13,
-            Refusal::EmptySpan { .. } => 14,
-            Refusal::NothingShared { .. } => 14,
+            Refusal::EmptySpan { .. } | Refusal::NothingShared { .. } => 14,
             Refusal::Emptied { .. } => 15,
             Refusal::KeepFull => 16,
             Refusal::NoMark => 17,
             Refusal::NotOneNumber { .. } => 18,
+            Refusal::OtherBook => 20,
         }
     }
 
-    // The place named, or the place that is none.
+    // The place named, or the place that is none. A number and not an `Option`: 255 is what the game is told.
     pub fn place(self) -> Place
         ensures { result ≡ refusal_place self }
     {
         match self {
-            Refusal::TooShort => NO_PLACE,
-            Refusal::OtherBook => NO_PLACE,
-            Refusal::NoSuchPlace { place } => place,
-            Refusal::EmptySpan { place } => place,
-            Refusal::NothingShared { place } => place,
-            Refusal::Emptied { place, .. } => place,
-            Refusal::KeepFull => NO_PLACE,
-            Refusal::NoMark => NO_PLACE,
-            Refusal::NotOneNumber { place } => place,
+            Refusal::NoSuchPlace { place }
+            | Refusal::EmptySpan { place }
+            | Refusal::NothingShared { place }
+            | Refusal::Emptied { place, .. }
+            | Refusal::NotOneNumber { place } => place,
+            Refusal::TooShort | Refusal::OtherBook | Refusal::KeepFull | Refusal::NoMark =>
+                NO_PLACE,
         }
     }
 
-    // The rule named, or the rule that is none.
+    // The rule named, or the rule that is none. A number and not an `Option`: 65,535 is what the game is told.
     pub fn rule(self) -> RuleNumber
         ensures { result ≡ refusal_rule self }
     {
         match self {
             Refusal::Emptied { rule, .. } => rule,
-            Refusal::TooShort => NO_RULE,
-            Refusal::OtherBook => NO_RULE,
-            Refusal::NoSuchPlace { .. } => NO_RULE,
-            Refusal::EmptySpan { .. } => NO_RULE,
-            Refusal::NothingShared { .. } => NO_RULE,
-            Refusal::KeepFull => NO_RULE,
-            Refusal::NoMark => NO_RULE,
-            Refusal::NotOneNumber { .. } => NO_RULE,
+            _ => NO_RULE,
         }
     }
 }

@@ -3,7 +3,6 @@ ghost use Rattle.std.specs.Prelude.{◌≡◌, ◌+◌, ◌*◌, ◌≤◌, leng
 ghost use Rattle.books.specs.Boards.{Full};
 ghost use Rattle.books.specs.Sweeps.{total};
 ghost use Rattle.engine.specs.Skims.{skim, skimmed};
-ghost use Rattle.engine.specs.Waiting.{filled};
 ghost use Rattle.engine.specs.Lent.{skim_told};
 
 use books::{Book, Place, RuleNumber};
@@ -17,16 +16,6 @@ pub type Strikes = u32;
 pub(crate) struct EmptiedBy {
     pub place: Place,
     pub rule: RuleNumber,
-}
-
-// Sets the entries of so many rules, and leaves the rest.
-pub(crate) fn fill(waiting: &mut [u8], rules: RuleNumber, value: u8)
-    requires { rules ≤ length waiting.old }
-    ensures { waiting.new ≡ filled rules value waiting.old }
-{
-    for rule in 0..rules {
-        waiting[rule as usize] = value;
-    }
 }
 
 // One sweep over the rules that wait, by rising number, each rule's places in its order. It goes on from so many strikes.
@@ -83,7 +72,7 @@ pub(crate) fn settle<B: Book>(
     ensures { skim_told result board.new waiting.new ≡ skimmed B.Span.Span.kind (B.Book.meaning book.now) board.old waiting.old }
 {
     book.lawful();
-    fill(waiting, book.rules(), 1);
+    waiting[0..book.rules() as usize].fill(1);
     let mut strikes = 0;
     loop {
         let after = sweep(book, board, waiting, strikes)?;

@@ -4,7 +4,7 @@
 use sheets::{SheetFault, read_outline};
 use std::io::{ErrorKind, Read, Write};
 use std::{fs, io};
-use text::{Fields, Lines, field_count};
+use text::{Fault, Fields, Lines, field_count};
 
 // One byte more than a sheet may have, so that a sheet that is too big shows.
 const MOST_BYTES: u64 = 65536;
@@ -27,10 +27,8 @@ fn read_sheet(rt: &HostRuntime) -> io::Result<Vec<u8>> {
 
 // `sheet`, and then the fault's number, line and field.
 fn print_fault(rt: &HostRuntime, fault: SheetFault) -> io::Result<()> {
-    let number = fault.number();
-    let line = fault.line();
-    let field = fault.field();
-    println!(rt; "sheet\t{number}\t{line}\t{field}")
+    let told = fault.told();
+    println!(rt; "sheet\t{told}")
 }
 
 // A record's word, and how many fields it has.
@@ -46,6 +44,7 @@ fn print_record(rt: &HostRuntime, line: &[u8]) -> io::Result<()> {
 // Every record of a sheet of so many lines, and then how many there are.
 fn print_records(rt: &HostRuntime, sheet: &[u8], count: usize) -> io::Result<()> {
     let mut lines = Lines::new(sheet);
+    // Counted, and not until the last line: a walk that stays at a fault has no end that a loop could be proved to reach.
     for _ in 0..count {
         if let Ok(Some(line)) = lines.next() {
             print_record(rt, line)?;

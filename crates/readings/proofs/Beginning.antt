@@ -8,9 +8,9 @@ use Rattle.text.specs.declared.fault.TextFault.TheVariants.{TooBig}
 use Rattle.text.specs.declared.fault.FieldFault.{FieldFault}
 use Rattle.text.specs.declared.lines.Lines.{Lines}
 use Rattle.text.specs.Lines.{size_checked, left}
-use Rattle.records.specs.declared.fault.SheetFault.{SheetFault}
-use Rattle.records.specs.declared.fault.SheetFault.TheVariants.{NoPlace}
-use Rattle.records.specs.declared.kind.SpanKind.{SpanKind}
+use Rattle.sheets.specs.declared.fault.SheetFault.{SheetFault}
+use Rattle.sheets.specs.declared.fault.SheetFault.TheVariants.{NoPlace}
+use Rattle.sheets.specs.declared.title.SpanKind.{SpanKind}
 use Rattle.records.specs.declared.kind.SheetKind.{SheetKind}
 use Rattle.records.specs.declared.kind.SheetKind.TheVariants.{Game, Expansion}
 use Rattle.records.specs.declared.places.PlaceRow.{PlaceRow}

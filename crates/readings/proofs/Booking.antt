@@ -2,6 +2,7 @@
 use Rattle.std.proofs.Common.{◌≡◌, ℕ, zero, suc, ◌<◌, ◌≤◌, ◌&&◌, ◌||◌, eqb, List, [], ◌∷◌, map, length, get_or, ℤ, pos, sym, refl, ap, ◌∙◌, subst, arith}
 use Rattle.std.proofs.lemmas.List.{length-map}
 use Rattle.std.proofs.lemmas.Bool.{eq-eqb, cond-true}
+use Rattle.spans.specs.AmountKind.{amounts}
 use Rattle.spans.specs.ChoiceKind.{choices}
 use Rattle.spans.specs.declared.amount.Amount.{Amount}
 use Rattle.spans.specs.declared.choice.Choice.{Choice}
@@ -14,12 +15,14 @@ use Rattle.rules.specs.declared.choices.row.ChoiceRow.TheVariants.{Pair, Apart}
 use Rattle.rules.specs.declared.sums.row.SumRow.{SumRow}
 use Rattle.rules.specs.Between.{between}
 use Rattle.rules.specs.BookCounts.{place_count, rule_count}
-use Rattle.rules.specs.ChoiceBooks.{rule_of, choice_book_of}
+use Rattle.rules.specs.ChoiceBooks as choice_books
+use Rattle.rules.specs.ChoiceBooks.{choice_book_of}
 use Rattle.rules.specs.ChoiceRows.{pairs_of, places_of}
 use Rattle.rules.specs.ChoiceRules.{is_pair, link_of, same_number, some_pair}
-use Rattle.rules.specs.SumBooks.{rule_none, row_rule, rule_at, sum_book_of}
-use Rattle.rules.specs.SumRows.{terms_of}
-use Rattle.rules.specs.Sums.{sum_rule}
+use Rattle.rules.specs.RowBooks.{rule_in}
+use Rattle.rules.specs.SumBooks as sum_books
+use Rattle.rules.specs.SumBooks.{sum_book_of}
+use Rattle.rules.specs.SumRows.{boards_of, terms_of}
 use Rattle.records.specs.Between.{tokens_shown, choice_shown}
 use Rattle.records.specs.Rules.{Rule, Row, sum, apart}
 use Rattle.records.specs.Sums.{sum_shown}
@@ -58,11 +61,14 @@ module _ {S R : Type 0} (shown : R → Row) (meant : R → books.Rule S) (none :
       counted = omega (arith, length-map rows shown, length-map rs (row_for places), ap length e)
 
 -- a row for boards of these places means what it holds
-sum_means : (n places : ℕ) → n ≡ places → (row : SumRow) (rule : Rule) → sum_shown row ≡ row_for places rule → Same (row_rule n row) rule
+abbrev sum_in : ℕ → SumRow → books.Rule Amount
+sum_in = rule_in amounts boards_of sum_books.rule_of
+
+sum_means : (n places : ℕ) → n ≡ places → (row : SumRow) (rule : Rule) → sum_shown row ≡ row_for places rule → Same (sum_in n row) rule
 sum_means n places n-is row rule e =
     let places_are : row.places ≡ n = ap (λ (x : Row). x.places) e ∙ sym n-is in
-    subst (Same (row_rule n row)) (ap (λ (x : Row). x.rule) e)
-    (subst (λ (one : books.Rule Amount). Same one (sum row.relation row.bound (terms_of row))) (sym (cond-true (eqb row.places n) (sum_rule row.relation row.bound (terms_of row)) rule_none (eq-eqb row.places n places_are)))
+    subst (Same (sum_in n row)) (ap (λ (x : Row). x.rule) e)
+    (subst (λ (one : books.Rule Amount). Same one (sum row.relation row.bound (terms_of row))) (sym (cond-true (eqb row.places n) (sum_books.rule_of row) (idle amounts (0 ∷ [])) (eq-eqb row.places n places_are)))
     (record { scope = refl; holdings = λ h. refl }))
 
 -- two numbers are a pair of a row where they are one of the pairs that it shows
@@ -70,7 +76,10 @@ some_listed : (x y : ℤ) (pairs : List TokenPair) → some_pair (is_pair x y) p
 some_listed x y [] = refl
 some_listed x y (p ∷ pairs) = ap (λ b. (same_number x (pos p.first) && same_number y (pos p.second)) || b) (some_listed x y pairs)
 
-choice_means : (n places : ℕ) → n ≡ places → (row : ChoiceRow) (rule : Rule) → choice_shown row ≡ row_for places rule → Same (rule_of n row) rule
+abbrev choice_in : ℕ → ChoiceRow → books.Rule Choice
+choice_in = rule_in choices places_of choice_books.rule_of
+
+choice_means : (n places : ℕ) → n ≡ places → (row : ChoiceRow) (rule : Rule) → choice_shown row ≡ row_for places rule → Same (choice_in n row) rule
 choice_means n places n-is row rule e =
     subst (λ (one : books.Rule Choice). Same one rule) (sym (cond-true (eqb (places_of row) n) (between (link_of row)) (idle choices (0 ∷ [])) (eq-eqb (places_of row) n (places_are row e)))) (link_means row e)
   where
@@ -82,18 +91,12 @@ choice_means n places n-is row rule e =
     link_means (Pair row) e = subst (Same (between (link_of (Pair row)))) (ap (λ (x : Row). x.rule) e) (record { scope = refl; holdings = λ h. some_listed (number_at h row.first) (number_at h row.second) (pairs_of row) })
     link_means (Apart row) e = subst (Same (between (link_of (Apart row)))) (ap (λ (x : Row). x.rule) e) (record { scope = refl; holdings = λ h. refl })
 
--- the rules of a book of sums, one for each row
-rule_at_lem : (n : ℕ) (rows : List SumRow) (r : ℕ) → rule_at n rows r ≡ get_or (map (row_rule n) rows) r rule_none
-rule_at_lem n [] r = refl
-rule_at_lem n (row ∷ rows) zero = refl
-rule_at_lem n (row ∷ rows) (suc r) = rule_at_lem n rows r
-
 pub sums_mean : (places : ℕ) (rows : List SumRow) → BookLaw places (map sum_shown rows) (sum_book_of places rows)
 sums_mean places rows rs e some few_places few_rules =
     let n-is = place_count_lem places some few_places in
-    book_means sum_shown (row_rule (place_count places)) rule_none places (sum_means (place_count places) places n-is) (sum_book_of places rows) rows rs e n-is refl (rule_at_lem (place_count places) rows) few_rules
+    book_means sum_shown (sum_in (place_count places)) (idle amounts (0 ∷ [])) places (sum_means (place_count places) places n-is) (sum_book_of places rows) rows rs e n-is refl (λ r. refl) few_rules
 
 pub choices_mean : (places : ℕ) (rows : List ChoiceRow) → BookLaw places (map choice_shown rows) (choice_book_of places rows)
 choices_mean places rows rs e some few_places few_rules =
     let n-is = place_count_lem places some few_places in
-    book_means choice_shown (rule_of (place_count places)) (idle choices (0 ∷ [])) places (choice_means (place_count places) places n-is) (choice_book_of places rows) rows rs e n-is refl (λ r. refl) few_rules
+    book_means choice_shown (choice_in (place_count places)) (idle choices (0 ∷ [])) places (choice_means (place_count places) places n-is) (choice_book_of places rows) rows rs e n-is refl (λ r. refl) few_rules

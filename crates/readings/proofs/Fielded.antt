@@ -16,7 +16,7 @@ use Rattle.text.specs.Numbers.{is_digit, all_digits, decimal_value, plain_size, 
 use Rattle.text.specs.Parts.{Lacks}
 use Rattle.text.proofs.Cutting.{cut_joined, joined_cut}
 use Rattle.text.proofs.Spelling.{number_law}
-use Rattle.records.specs.declared.fault.SheetFault.{SheetFault}
+use Rattle.sheets.specs.declared.fault.SheetFault.{SheetFault}
 use Rattle.records.specs.Numbers.{size, sized, count_within}
 use Rattle.records.specs.Records.{Fielded, head}
 use Rattle.records.specs.Steps.{then, unless_fault}
@@ -161,8 +161,8 @@ count_to low high at n s l h = ap sized (number_to (pos low) (pos high) at (pos 
 plain_lacks : (bs : List ℕ) → plain_bytes bs ≡ true → Lacks 9 bs
 plain_lacks [] e = tt
 plain_lacks (b ∷ bs) e =
-    let p = and_parts (leb 32 b) (not (eqb b 127) && plain_bytes bs) e in
-    ((λ z. omega (arith, leb-true 32 b p.0)), plain_lacks bs (and_parts (not (eqb b 127)) (plain_bytes bs) p.1).1)
+    let p = and_parts (leb 32 b && not (eqb b 127)) (plain_bytes bs) e in
+    ((λ z. omega (arith, leb-true 32 b (and_parts (leb 32 b) (not (eqb b 127)) p.0).0)), plain_lacks bs p.1)
 
 pub name_lacks : (field : List ℕ) → name_test field ≡ true → Lacks 9 field
 name_lacks field e = plain_lacks field (and_parts (leb (length field) 24) (plain_bytes field) (and_parts (leb 1 (length field)) _ e).1).1

@@ -2,12 +2,12 @@
 use Rattle.std.proofs.Common.{◌≡◌, ℕ, suc, ◌+◌, ◌≤◌, Bool, true, false, ◌⊎◌, List, [], ◌∷◌, ◌++◌, length, Some, None, Ok, Err, Option, Result, sym, refl, ap, ◌∙◌, subst, inl, inr, arith}
 use Rattle.std.proofs.lemmas.List.{length_push}
 use Rattle.text.specs.declared.fault.TextFault.TheVariants.{Unended, TooLong}
-use Rattle.records.specs.declared.fault.SheetFault.{SheetFault}
-use Rattle.records.specs.declared.fault.SheetFault.TheVariants as fault
-use Rattle.records.specs.declared.kind.SpanKind.{SpanKind}
+use Rattle.sheets.specs.declared.fault.SheetFault.{SheetFault}
+use Rattle.sheets.specs.declared.fault.SheetFault.TheVariants as fault
+use Rattle.sheets.specs.declared.title.SpanKind.{SpanKind}
 use Rattle.records.specs.declared.kind.SheetKind.{SheetKind}
 use Rattle.records.specs.declared.kind.SheetKind.TheVariants.{Game, Expansion}
-use Rattle.records.specs.Faults.{sheet_told}
+use Rattle.sheets.specs.Faults.{sheet_told}
 use Rattle.records.specs.Places.{Place}
 use Rattle.records.specs.Rules.{Row}
 use Rattle.records.specs.RuleLines.{rule_line_of}

@@ -7,8 +7,8 @@ use Rattle.rules.specs.ChoiceTests.{two_places_test}
 use Rattle.text.specs.declared.fault.At.{At}
 use Rattle.text.specs.Names.{name_test, name_at, same_name}
 use Rattle.text.specs.Parts.{Lacks}
-use Rattle.records.specs.declared.fault.SheetFault.{SheetFault}
-use Rattle.records.specs.declared.kind.SpanKind.{SpanKind}
+use Rattle.sheets.specs.declared.fault.SheetFault.{SheetFault}
+use Rattle.sheets.specs.declared.title.SpanKind.{SpanKind}
 use Rattle.records.specs.declared.record.Word.{Word}
 use Rattle.records.specs.declared.record.Word.TheVariants as word
 use Rattle.records.specs.Between.{two_places}

@@ -4,7 +4,7 @@ use Rattle.std.proofs.lemmas.List.{length-map, get_or-take, get_or-set_same, get
 use Rattle.std.proofs.lemmas.Bool.{cases_eq, cases_lt}
 use Rattle.spans.specs.Kind.{Kind}
 use Rattle.books.specs.Boards.{span_at}
-use Rattle.records.specs.declared.kind.SpanKind.{SpanKind}
+use Rattle.sheets.specs.declared.title.SpanKind.{SpanKind}
 use Rattle.records.specs.declared.places.PlaceRow.{PlaceRow}
 use Rattle.records.specs.Places.{Place, place_shown}
 use Rattle.records.specs.RuleLines.{opens}

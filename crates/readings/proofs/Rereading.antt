@@ -4,8 +4,8 @@ use Rattle.std.proofs.lemmas.List.{append-nil, append_assoc, length-append, leng
 use Rattle.std.proofs.lemmas.Bool.{cond-true, cond-false, le-ltb, and_parts, and_from}
 use Rattle.std.specs.List.{AllByRecursion}
 use Rattle.text.specs.Lines.{Lined}
-use Rattle.records.specs.declared.fault.SheetFault.{SheetFault}
-use Rattle.records.specs.declared.kind.SpanKind.{SpanKind}
+use Rattle.sheets.specs.declared.fault.SheetFault.{SheetFault}
+use Rattle.sheets.specs.declared.title.SpanKind.{SpanKind}
 use Rattle.records.specs.declared.kind.SheetKind.{SheetKind}
 use Rattle.records.specs.declared.kind.SheetKind.TheVariants.{Game, Expansion}
 use Rattle.records.specs.Places.{Place, place_line}

@@ -1,6 +1,6 @@
 -- The laws of games and expansions, whole. Assumes nothing.
 use Rattle.std.proofs.Common.{ℕ, List}
-use Rattle.records.specs.declared.kind.SpanKind.{SpanKind}
+use Rattle.sheets.specs.declared.title.SpanKind.{SpanKind}
 use Rattle.records.specs.Places.{Place}
 use Rattle.readings.specs.Lines.{lines_of}
 use Rattle.readings.specs.Laws.{GameLaw, ExpansionLaw}

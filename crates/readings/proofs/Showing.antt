@@ -1,7 +1,7 @@
 -- What a sheet shows of its tables. Assumes nothing.
 use Rattle.std.proofs.Common.{◌≡◌, ℕ, ◌≤◌, List, ◌++◌, map, length, take, drop, Ok, Result, sym, ap, ◌∙◌, ap₂, arith}
 use Rattle.std.proofs.lemmas.List.{map-append, take-append-drop, length-take-le}
-use Rattle.records.specs.declared.fault.SheetFault.{SheetFault}
+use Rattle.sheets.specs.declared.fault.SheetFault.{SheetFault}
 use Rattle.records.specs.Places.{Place}
 use Rattle.records.specs.Rules.{Row}
 use Rattle.readings.specs.declared.reading.Counts.{Counts}

@@ -19,9 +19,9 @@ use Rattle.text.specs.Fields.{fields_of, others}
 use Rattle.text.specs.Names.{name_test, name_at}
 use Rattle.text.specs.Numbers.{number_in}
 use Rattle.text.specs.Parts.{Lacks}
-use Rattle.records.specs.declared.fault.SheetFault.TheVariants as fault
-use Rattle.records.specs.declared.kind.SpanKind.{SpanKind}
-use Rattle.records.specs.declared.kind.SpanKind.TheVariants.{Amounts, Choices}
+use Rattle.sheets.specs.declared.fault.SheetFault.TheVariants as fault
+use Rattle.sheets.specs.declared.title.SpanKind.{SpanKind}
+use Rattle.sheets.specs.declared.title.SpanKind.TheVariants.{Amounts, Choices}
 use Rattle.records.specs.declared.kind.SheetKind.{SheetKind}
 use Rattle.records.specs.declared.kind.SheetKind.TheVariants.{Game, Expansion}
 use Rattle.records.specs.declared.places.Opening.{Opening}

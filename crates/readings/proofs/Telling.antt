@@ -8,19 +8,20 @@ use Rattle.text.specs.declared.fault.At.{At}
 use Rattle.text.specs.declared.fault.TextFault.TheVariants.{Unended, TooLong}
 use Rattle.text.specs.declared.fault.FieldFault.{FieldFault}
 use Rattle.text.specs.declared.fault.FieldFault.TheVariants.{Malformed, OutOfRange}
-use Rattle.text.specs.Faults.{Told, field_told}
+use Rattle.text.specs.declared.fault.Told.{Told}
+use Rattle.text.specs.Faults.{field_told}
 use Rattle.text.specs.Fields.{fields_of, others}
 use Rattle.text.specs.Names.{name_test, name_at}
 use Rattle.text.specs.Numbers.{number_of, within, number_in}
-use Rattle.records.specs.declared.fault.SheetFault.{SheetFault}
-use Rattle.records.specs.declared.fault.SheetFault.TheVariants as fault
-use Rattle.records.specs.declared.kind.SpanKind.{SpanKind}
-use Rattle.records.specs.declared.kind.SpanKind.TheVariants.{Amounts, Choices}
+use Rattle.sheets.specs.declared.fault.SheetFault.{SheetFault}
+use Rattle.sheets.specs.declared.fault.SheetFault.TheVariants as fault
+use Rattle.sheets.specs.declared.title.SpanKind.{SpanKind}
+use Rattle.sheets.specs.declared.title.SpanKind.TheVariants.{Amounts, Choices}
 use Rattle.records.specs.declared.kind.SheetKind.{SheetKind}
 use Rattle.records.specs.declared.record.Word.{Word}
 use Rattle.records.specs.declared.record.Word.TheVariants as word
 use Rattle.records.specs.Between.{two_places, tokens_at, tokens_from, pair_fields, apart_fields}
-use Rattle.records.specs.Faults.{sheet_told}
+use Rattle.sheets.specs.Faults.{sheet_told}
 use Rattle.records.specs.Names.{position_after, known, known_place}
 use Rattle.records.specs.Numbers.{sized, count_within}
 use Rattle.records.specs.Places as places

@@ -16,7 +16,7 @@ use Rattle.text.specs.declared.fault.FieldFault.{FieldFault}
 use Rattle.text.specs.declared.fault.FieldFault.TheVariants.{OutOfRange}
 use Rattle.text.specs.Numbers.{number_in}
 use Rattle.text.specs.Parts.{Lacks}
-use Rattle.records.specs.declared.kind.SpanKind.{SpanKind}
+use Rattle.sheets.specs.declared.title.SpanKind.{SpanKind}
 use Rattle.records.specs.Between.{tokens_at, tokens_from}
 use Rattle.records.specs.Names.{known_place}
 use Rattle.records.specs.Numbers.{count_within}

@@ -3,9 +3,9 @@ use Rattle.std.proofs.Common.{◌≡◌, ℕ, ◌+◌, ◌<◌, ◌≤◌, Bool,
 use Rattle.std.proofs.lemmas.Bool.{cond-true, ltb-true, ltb-false, lt-ltb}
 use Rattle.std.specs.List.{AllByRecursion}
 use Rattle.text.specs.declared.fault.TextFault.TheVariants.{TooBig}
-use Rattle.records.specs.declared.fault.SheetFault.{SheetFault}
-use Rattle.records.specs.declared.fault.SheetFault.TheVariants.{Full}
-use Rattle.records.specs.declared.kind.SpanKind.{SpanKind}
+use Rattle.sheets.specs.declared.fault.SheetFault.{SheetFault}
+use Rattle.sheets.specs.declared.fault.SheetFault.TheVariants.{Full}
+use Rattle.sheets.specs.declared.title.SpanKind.{SpanKind}
 use Rattle.records.specs.Places.{Place}
 use Rattle.records.specs.Rules.{Rule, Row}
 use Rattle.records.specs.Steps.{then}

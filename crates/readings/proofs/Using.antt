@@ -8,9 +8,9 @@ use Rattle.rules.specs.SumTerms.{is_coefficient, term_test, terms_test}
 use Rattle.text.specs.declared.fault.At.{At}
 use Rattle.text.specs.Fields.{fields_of, others}
 use Rattle.text.specs.Numbers.{number_in}
-use Rattle.records.specs.declared.fault.SheetFault.{SheetFault}
-use Rattle.records.specs.declared.kind.SpanKind.{SpanKind}
-use Rattle.records.specs.declared.kind.SpanKind.TheVariants.{Amounts, Choices}
+use Rattle.sheets.specs.declared.fault.SheetFault.{SheetFault}
+use Rattle.sheets.specs.declared.title.SpanKind.{SpanKind}
+use Rattle.sheets.specs.declared.title.SpanKind.TheVariants.{Amounts, Choices}
 use Rattle.records.specs.declared.record.Word.{Word}
 use Rattle.records.specs.declared.record.Word.TheVariants as word
 use Rattle.records.specs.Between.{two_places, pair_fields, apart_fields}

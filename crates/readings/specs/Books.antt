@@ -6,7 +6,7 @@ use Rattle.books.specs.Meaning.{Meaning}
 use Rattle.rules.specs.ChoiceRules.{same_number}
 use Rattle.rules.specs.SumTerms.{place_of}
 use Rattle.rules.specs.Sums.{sum_of, stands}
-use Rattle.records.specs.declared.kind.SpanKind.{SpanKind}
+use Rattle.sheets.specs.declared.title.SpanKind.{SpanKind}
 use Rattle.records.specs.Places.{Place}
 use Rattle.records.specs.Rules as rules
 use Rattle.records.specs.Rules.{Rule, Row, sum, pair, apart}

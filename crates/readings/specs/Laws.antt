@@ -2,10 +2,10 @@
 use Rattle.std.specs.Prelude.{◌≡◌, ℕ, suc, ◌≤◌, true, ◌⊎◌, ◌↔◌, List, [], ◌∷◌, ◌++◌, map, length, Some, None, Option, ◌≢◌}
 use Rattle.std.specs.List.{AllByRecursion}
 use Rattle.text.specs.Lines.{Lined}
-use Rattle.records.specs.declared.fault.SheetFault.{SheetFault}
-use Rattle.records.specs.declared.fault.SheetFault.TheVariants.{Title, NoPlace}
-use Rattle.records.specs.declared.kind.SpanKind.{SpanKind}
-use Rattle.records.specs.Faults.{sheet_told}
+use Rattle.sheets.specs.declared.fault.SheetFault.{SheetFault}
+use Rattle.sheets.specs.declared.fault.SheetFault.TheVariants.{Title, NoPlace}
+use Rattle.sheets.specs.declared.title.SpanKind.{SpanKind}
+use Rattle.sheets.specs.Faults.{sheet_told}
 use Rattle.records.specs.Places.{Place}
 use Rattle.records.specs.Rules.{Rule, Row}
 use Rattle.readings.specs.Lines.{Line, lines_of}

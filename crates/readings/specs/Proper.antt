@@ -4,8 +4,8 @@ use Rattle.spans.specs.Bounds.{bounded}
 use Rattle.rules.specs.ChoiceTests.{are_tokens, two_places_test, is_pair_row}
 use Rattle.rules.specs.SumTerms.{sum_test}
 use Rattle.text.specs.Names.{name_test}
-use Rattle.records.specs.declared.kind.SpanKind.{SpanKind}
-use Rattle.records.specs.declared.kind.SpanKind.TheVariants.{Amounts, Choices}
+use Rattle.sheets.specs.declared.title.SpanKind.{SpanKind}
+use Rattle.sheets.specs.declared.title.SpanKind.TheVariants.{Amounts, Choices}
 use Rattle.records.specs.declared.places.Opening.{Opening}
 use Rattle.records.specs.declared.places.Opening.TheVariants.{Amount, Tokens}
 use Rattle.records.specs.Places.{Place, declares}

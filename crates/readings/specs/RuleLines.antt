@@ -1,6 +1,5 @@
 -- The lines of rules in a sheet, whether or not the sheet can be read. Assumes nothing.
-use Rattle.std.specs.Prelude.{ℕ, zero, suc, Bool, true, false, List, [], ◌∷◌, Some, None, Ok, Err, filter, Option, Result}
-use Rattle.std.specs.Borrow.{Bor}
+use Rattle.std.specs.Prelude.{ℕ, Bool, true, false, List, [], ◌∷◌, Some, None, filter, Option}
 use Rattle.text.specs.Parts.{cut_at}
 use Rattle.text.specs.Fields.{fields_of}
 use Rattle.records.specs.declared.record.Word.{Word}
@@ -34,14 +33,3 @@ ended_lines sheet = but_last (cut_at 10 sheet)
 -- the ended lines that are rules', first to last
 abbrev pub rule_lines_of : List ℕ → List (List ℕ)
 rule_lines_of sheet = filter rule_line_test (ended_lines sheet)
-
--- the line with the number, or by how many the number is beyond the lines
-abbrev pub sought : List (List ℕ) → ℕ → Result (List ℕ) ℕ
-sought [] number = Err number
-sought (line ∷ lines) zero = Ok line
-sought (line ∷ lines) (suc number) = sought lines number
-
--- an answer with its line by its bytes
-abbrev pub shown_sought : Result (Bor (List ℕ)) ℕ → Result (List ℕ) ℕ
-shown_sought (Ok line) = Ok line.now
-shown_sought (Err beyond) = Err beyond

@@ -1,6 +1,6 @@
 -- What a sheet that was read shows of the tables. Assumes nothing.
 use Rattle.std.specs.Prelude.{ℕ, List, ◌++◌, map, length, Ok, Err, Result}
-use Rattle.records.specs.declared.fault.SheetFault.{SheetFault}
+use Rattle.sheets.specs.declared.fault.SheetFault.{SheetFault}
 use Rattle.records.specs.Places.{Place, place_shown}
 use Rattle.records.specs.Rules.{Row}
 use Rattle.readings.specs.declared.reading.Counts.{Counts}

@@ -1,10 +1,10 @@
 -- Tables of places and rules, before and after a sheet is read into them. Assumes nothing.
 use Rattle.std.specs.Prelude.{◌≡◌, ℕ, ◌+◌, ◌≤◌, cond, List, [], ◌∷◌, ◌++◌, length, take, drop, Some, None, Ok, Err, Option, Result}
 use Rattle.std.specs.Borrow.{Bor}
-use Rattle.records.specs.declared.fault.SheetFault.{SheetFault}
-use Rattle.records.specs.declared.kind.SpanKind.{SpanKind}
+use Rattle.sheets.specs.declared.fault.SheetFault.{SheetFault}
+use Rattle.sheets.specs.declared.title.SpanKind.{SpanKind}
 use Rattle.text.specs.declared.lines.Lines.{Lines}
-use Rattle.records.specs.declared.fault.SheetFault.TheVariants.{Title}
+use Rattle.sheets.specs.declared.fault.SheetFault.TheVariants.{Title}
 use Rattle.records.specs.declared.kind.SheetKind.{SheetKind}
 use Rattle.text.specs.declared.fault.TextFault.TheVariants.{TooLong, Unended}
 use Rattle.records.specs.Titles.{title_checked}

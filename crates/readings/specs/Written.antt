@@ -5,8 +5,8 @@ use Rattle.rules.specs.declared.sums.term.Relation.{Relation}
 use Rattle.rules.specs.declared.sums.term.Relation.TheVariants.{AtMost, AtLeast, Equal}
 use Rattle.rules.specs.declared.sums.term.Term.{Term}
 use Rattle.text.specs.Parts.{joined_by}
-use Rattle.records.specs.declared.kind.SpanKind.{SpanKind}
-use Rattle.records.specs.declared.kind.SpanKind.TheVariants.{Amounts, Choices}
+use Rattle.sheets.specs.declared.title.SpanKind.{SpanKind}
+use Rattle.sheets.specs.declared.title.SpanKind.TheVariants.{Amounts, Choices}
 use Rattle.records.specs.declared.kind.SheetKind.{SheetKind}
 use Rattle.records.specs.declared.kind.SheetKind.TheVariants.{Game, Expansion}
 use Rattle.records.specs.declared.places.Opening.{Opening}

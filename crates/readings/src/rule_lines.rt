@@ -1,6 +1,7 @@
 // The line of a rule, found in the sheets that it was written in.
 ghost use Rattle.std.specs.Prelude.{◌≡◌, [], ◌++◌, slice_index_or};
-ghost use Rattle.readings.specs.RuleLines.{rule_line_test, rule_lines_of, sought, shown_sought};
+ghost use Rattle.std.specs.Iterator.{YieldsFirstRef, item_count};
+ghost use Rattle.readings.specs.RuleLines.{rule_line_test, ended_lines, rule_lines_of};
 ghost use Rattle.readings.specs.Laws.{RuleLinesLaw};
 
 use books::RuleNumber;
@@ -14,26 +15,24 @@ fn is_rule_line(line: &[u8]) -> bool
     matches!(line_word(line), Some(Word::Sum | Word::Pair | Word::Apart))
 }
 
-// The rule line with the number, counted from 0 in one sheet. For a number beyond them all, the error is the number
-// less the sheet's count of rule lines: the one to look for in the sheet that goes on counting.
-fn find_rule<'s>(sheet: &'s [u8], rule: RuleNumber) -> Result<&'s [u8], RuleNumber>
-    ensures { shown_sought result ≡ sought (rule_lines_of sheet.now) rule }
-{
-    let mut rest = sheet;
-    let mut left = rule;
-    loop {
-        let n = length_before(b'\n', rest);
-        if n >= rest.len() {
-            return Err(left);
-        }
-        let line = &rest[0..n];
-        if is_rule_line(line) {
-            if left == 0 {
-                return Ok(line);
-            }
-            left -= 1;
-        }
-        rest = &rest[n + 1..];
+// The lines of some bytes that a byte 10 ends, one by one and each without it. What follows the last byte 10 is no line.
+#[derive(Clone, Copy)]
+pub(crate) struct EndedLines<'s> {
+    rest: &'s [u8],
+}
+
+impl<'s> Iterator for EndedLines<'s> {
+    type Item = &'s [u8];
+
+    // each call hands out the first of the lines that are left
+    ghost next_gives = { YieldsFirstRef (λ reader. ended_lines reader.rest.now) };
+
+    ghost remaining = { item_count (λ reader. ended_lines reader.rest.now) };
+
+    fn next(&mut self) -> Option<&'s [u8]> {
+        let (line, behind) = self.rest.split_at(length_before(b'\n', self.rest));
+        self.rest = behind.get(1..)?;
+        Some(line)
     }
 }
 
@@ -43,11 +42,7 @@ pub fn rule_line<'s>(game: &'s [u8], expansion: &'s [u8], rule: RuleNumber) -> &
     ensures line { result.now ≡ slice_index_or (rule_lines_of game.now ++ rule_lines_of expansion.now) rule [] }
     ensures law { RuleLinesLaw game.now expansion.now }
 {
-    match find_rule(game, rule) {
-        Ok(line) => line,
-        Err(left) => match find_rule(expansion, left) {
-            Ok(line) => line,
-            Err(_) => &game[0..0],
-        },
-    }
+    let lines = EndedLines { rest: game }.chain(EndedLines { rest: expansion });
+    let mut rules = lines.filter(|line| is_rule_line(*line));
+    rules.nth(rule as usize).unwrap_or(&game[0..0])
 }

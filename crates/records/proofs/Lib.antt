@@ -1,5 +1,4 @@
 pub mod Ranging
-pub mod Declaring
 pub mod Naming
 pub mod Taking
 pub mod Going

@@ -1,11 +1,12 @@
 -- Places looked up by name. Assumes nothing.
-use Rattle.std.proofs.Common.{◌≡◌, ℕ, ◌+◌, ◌-◌, ◌<◌, ◌≤◌, min, true, false, ◌⊎◌, List, map, length, get_or, take, drop, Some, sym, ap, ◌∙◌, ⊎_elim, arith}
+use Rattle.std.proofs.Common.{refl, [], ◌∷◌, cond, ◌||◌, ◌≡◌, ℕ, ◌+◌, ◌-◌, ◌<◌, ◌≤◌, min, true, false, ◌⊎◌, List, map, length, get_or, take, drop, Some, sym, ap, ◌∙◌, ⊎_elim, arith}
 use native.Mathlib.Nat.{sub-zero}
 use Rattle.std.proofs.lemmas.List.{at_drop_more, take-map, take_all}
 use Rattle.std.proofs.lemmas.Bool.{cond-true, cond-false, cases_lt}
+use Rattle.std.specs.List.{list_any, position_from}
 use Rattle.text.specs.Names.{same_name}
 use Rattle.records.specs.declared.places.PlaceRow.{PlaceRow}
-use Rattle.records.specs.Places.{place_shown}
+use Rattle.records.specs.Places.{place_shown, declares}
 use Rattle.records.specs.Names.{position_after}
 
 -- as many of some rows as there are, and not above a number, are those below that number
@@ -15,10 +16,11 @@ first_places rows n e = ap (λ m. map place_shown (take m rows)) (sub-zero n) �
     go : (254 < length rows) ⊎ (length rows ≤ 254) → take n rows ≡ take 254 rows
     go = ⊎_elim (λ h. (let k : n ≡ 254 = omega arith in ap (λ m. take m rows) k)) (λ h. take_all n rows (omega arith) ∙ sym (take_all 254 rows h))
 
--- one turn of the search
-module _ (rows : List PlaceRow) (name : List ℕ) (i : ℕ) (d : PlaceRow) (h : i < length rows) where
-  pub found : true ≡ same_name (place_shown (get_or rows i d)).name name → position_after i (map place_shown (drop i rows)) name ≡ Some i
-  found e = at_drop_more (λ l. position_after i (map place_shown l) name) rows i d h ∙ cond-true _ _ _ (sym e)
+-- rows are looked up as the places that they show
+pub any_shown : (rows : List PlaceRow) (name : List ℕ) → list_any (λ (row : PlaceRow). same_name row.name.now name) rows ≡ declares (map place_shown rows) name
+any_shown [] name = refl
+any_shown (row ∷ rows) name = ap (λ t. same_name row.name.now name || t) (any_shown rows name)
 
-  pub passed : false ≡ same_name (place_shown (get_or rows i d)).name name → position_after i (map place_shown (drop i rows)) name ≡ position_after (i + 1) (map place_shown (drop (i + 1) rows)) name
-  passed e = at_drop_more (λ l. position_after i (map place_shown l) name) rows i d h ∙ cond-false _ _ _ (sym e)
+pub position_shown : (n : ℕ) (rows : List PlaceRow) (name : List ℕ) → position_from (λ (row : PlaceRow). same_name row.name.now name) n rows ≡ position_after n (map place_shown rows) name
+position_shown n [] name = refl
+position_shown n (row ∷ rows) name = ap (λ o. cond (same_name row.name.now name) (Some n) o) (position_shown (n + 1) rows name)

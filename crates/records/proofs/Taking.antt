@@ -1,7 +1,7 @@
 -- Fields taken two by two. Assumes nothing.
-use Rattle.std.proofs.Common.{◌≡◌, ℕ, ◌+◌, ◌-◌, ◌≤◌, List, [], ◌∷◌, ◌++◌, length, Some, None, Ok, Err, Option, Result, sym, refl, ap, ◌∙◌, subst, arith}
+use Rattle.std.proofs.Common.{◌≡◌, ℕ, ◌+◌, ◌-◌, ◌≤◌, List, [], ◌∷◌, ◌++◌, length, Ok, Err, Result, sym, refl, ap, ◌∙◌, subst, arith}
 use Rattle.std.proofs.lemmas.List.{length_push}
-use Rattle.text.specs.Fields.{first, others}
+use Rattle.text.specs.Fields.{others}
 use Rattle.records.specs.Records.{head}
 use Rattle.records.specs.Steps.{then}
 use Rattle.records.specs.Twos.{twos_from}
@@ -12,31 +12,20 @@ pub length_others : (fs : List (List ℕ)) → length (others fs) ≡ length fs 
 length_others [] = refl
 length_others (f ∷ fs) = omega arith
 
--- a first field was there, or none
-pub some_left : (fs : List (List ℕ)) (x : List ℕ) → ◌≡◌ {A = Option (List ℕ)} (Some x) (first fs) → 1 ≤ length fs
-some_left [] x e = let z : ◌≡◌ {A = ℕ} 0 1 = cc in absurd (omega arith)
-some_left (f ∷ fs) x e = omega arith
-
-pub none_left : (fs : List (List ℕ)) → ◌≡◌ {A = Option (List ℕ)} None (first fs) → fs ≡ []
-none_left [] e = refl
-none_left (f ∷ fs) e = let z : ◌≡◌ {A = ℕ} 0 1 = cc in absurd (omega arith)
-
 module _ {T E : Type 0} (read : ℕ → List T → List ℕ → List ℕ → Result T E) where
   -- one turn over two fields
-  twos_more : (f : ℕ) (ts : List T) (fs : List (List ℕ)) (a : List ℕ) → ◌≡◌ {A = Option (List ℕ)} (Some a) (first fs)
-      → twos_from read f ts fs ≡ then (read f ts a (head (others fs))) (λ t. twos_from read (f + 2) (ts ++ (t ∷ [])) (others (others fs)))
-  twos_more f ts [] a e = let z : ◌≡◌ {A = ℕ} 0 1 = cc in absurd (omega arith)
-  twos_more f ts (d ∷ []) a e = let same : d ≡ a = cc in ap (λ x. then (read f ts x []) (λ t. Ok (ts ++ (t ∷ [])))) same
-  twos_more f ts (d ∷ (n ∷ fs)) a e = let same : d ≡ a = cc in ap (λ x. then (read f ts x n) (λ t. twos_from read (f + 2) (ts ++ (t ∷ [])) fs)) same
+  twos_more : (f : ℕ) (ts : List T) (a : List ℕ) (gs : List (List ℕ))
+      → twos_from read f ts (a ∷ gs) ≡ then (read f ts a (head gs)) (λ t. twos_from read (f + 2) (ts ++ (t ∷ [])) (others gs))
+  twos_more f ts a [] = refl
+  twos_more f ts a (b ∷ gs) = refl
 
   module _ (f : ℕ) (ts : List T) (fs gs hs : List (List ℕ)) (a b : List ℕ) (all : Result (List T) E)
-      (one : ◌≡◌ {A = Option (List ℕ)} (Some a) (first fs)) (gs-is : gs ≡ others fs) (two : b ≡ head gs) (hs-is : hs ≡ others gs)
-      (inv : twos_from read f ts fs ≡ all) where
+      (one : fs ≡ a ∷ gs) (two : b ≡ head gs) (hs-is : hs ≡ others gs) (inv : twos_from read f ts fs ≡ all) where
     whole : (r : Result T E) → r ≡ read f ts a b → then r (λ t. twos_from read (f + 2) (ts ++ (t ∷ [])) hs) ≡ all
     whole r e =
-        ap (λ x. then x (λ t. twos_from read (f + 2) (ts ++ (t ∷ [])) hs)) (e ∙ ap (read f ts a) (two ∙ ap head gs-is))
-        ∙ ap (λ xs. then (read f ts a (head (others fs))) (λ t. twos_from read (f + 2) (ts ++ (t ∷ [])) xs)) (hs-is ∙ ap others gs-is)
-        ∙ sym (twos_more f ts fs a one)
+        ap (λ x. then x (λ t. twos_from read (f + 2) (ts ++ (t ∷ [])) hs)) (e ∙ ap (read f ts a) two)
+        ∙ ap (λ xs. then (read f ts a (head gs)) (λ t. twos_from read (f + 2) (ts ++ (t ∷ [])) xs)) hs-is
+        ∙ sym (ap (twos_from read f ts) one ∙ twos_more f ts a gs)
         ∙ inv
 
     pub two_refused : (fault : E) → Err fault ≡ read f ts a b → Err fault ≡ all

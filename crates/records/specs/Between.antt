@@ -7,8 +7,8 @@ use Rattle.rules.specs.declared.choices.row.ChoiceRow.{ChoiceRow}
 use Rattle.rules.specs.declared.choices.row.ChoiceRow.TheVariants as row
 use Rattle.rules.specs.ChoiceRows.{pairs_of}
 use Rattle.text.specs.declared.fault.FieldFault.{FieldFault}
-use Rattle.records.specs.declared.fault.SheetFault.{SheetFault}
-use Rattle.records.specs.declared.fault.SheetFault.TheVariants.{Name}
+use Rattle.sheets.specs.declared.fault.SheetFault.{SheetFault}
+use Rattle.sheets.specs.declared.fault.SheetFault.TheVariants.{Name}
 use Rattle.records.specs.declared.two.TwoPlaces.{TwoPlaces}
 use Rattle.records.specs.declared.two.Pairs.{Pairs}
 use Rattle.records.specs.Numbers.{count_within}

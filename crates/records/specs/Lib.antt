@@ -1,4 +1,3 @@
-pub mod Faults
 pub mod Words
 pub mod Records
 pub mod Titles

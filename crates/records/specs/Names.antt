@@ -1,11 +1,12 @@
 -- Places by their names. Assumes nothing.
-use Rattle.std.specs.Prelude.{ℕ, ◌+◌, cond, List, [], ◌∷◌, map, Some, None, Ok, Err, Option, Result}
+use Rattle.std.specs.Prelude.{ℕ, List, map, Some, None, Ok, Err, Option, Result}
+use Rattle.std.specs.List.{position_from}
 use Rattle.text.specs.declared.fault.At.{At}
-use Rattle.text.specs.Names.{name_at, same_name}
-use Rattle.records.specs.declared.fault.SheetFault.{SheetFault}
-use Rattle.records.specs.declared.fault.SheetFault.TheVariants.{Name}
+use Rattle.text.specs.Names.{name_at}
+use Rattle.sheets.specs.declared.fault.SheetFault.{SheetFault}
+use Rattle.sheets.specs.declared.fault.SheetFault.TheVariants.{Name}
 use Rattle.records.specs.declared.names.Names.{Names}
-use Rattle.records.specs.Places.{Place, place_shown}
+use Rattle.records.specs.Places.{Place, place_shown, has_name}
 use Rattle.records.specs.Steps.{unless_fault}
 
 -- the places whose names may be used
@@ -14,8 +15,7 @@ named names = map place_shown names.places.now
 
 -- the number of the first place with the name, where the first of the places has the number given
 abbrev pub position_after : ℕ → List Place → List ℕ → Option ℕ
-position_after n [] name = None
-position_after n (p ∷ ps) name = cond (same_name p.name name) (Some n) (position_after (n + 1) ps name)
+position_after n ps name = position_from (has_name name) n ps
 
 -- a place that was found; 9 where there is none
 abbrev pub known : At → Option ℕ → Result ℕ SheetFault

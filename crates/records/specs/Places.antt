@@ -1,13 +1,14 @@
 -- Places, as place lines declare them. Assumes nothing.
-use Rattle.std.specs.Prelude.{ℕ, Bool, false, cond, ◌||◌, List, [], ◌∷◌, ℤ, pos, negsuc, Some, None, Ok, Err, Option, Result}
+use Rattle.std.specs.Prelude.{ℕ, Bool, cond, List, ℤ, pos, negsuc, Some, None, Ok, Err, Option, Result}
+use Rattle.std.specs.List.{list_any}
 use Rattle.text.specs.declared.fault.FieldFault.{FieldFault}
 use Rattle.text.specs.Fields.{fields_of, others}
 use Rattle.text.specs.Names.{name_at, same_name}
 use Rattle.text.specs.Numbers.{number_in}
-use Rattle.records.specs.declared.fault.SheetFault.{SheetFault}
-use Rattle.records.specs.declared.fault.SheetFault.TheVariants.{Count, Name}
-use Rattle.records.specs.declared.kind.SpanKind.{SpanKind}
-use Rattle.records.specs.declared.kind.SpanKind.TheVariants.{Amounts, Choices}
+use Rattle.sheets.specs.declared.fault.SheetFault.{SheetFault}
+use Rattle.sheets.specs.declared.fault.SheetFault.TheVariants.{Count, Name}
+use Rattle.sheets.specs.declared.title.SpanKind.{SpanKind}
+use Rattle.sheets.specs.declared.title.SpanKind.TheVariants.{Amounts, Choices}
 use Rattle.records.specs.declared.record.Word.TheVariants as word
 use Rattle.records.specs.declared.places.Opening.{Opening}
 use Rattle.records.specs.declared.places.Opening.TheVariants.{Amount, Tokens}
@@ -24,10 +25,13 @@ pub record Place : Type 0 where
 abbrev pub place_shown : PlaceRow → Place
 place_shown row = record { name = row.name.now; opening = row.opening }
 
+-- the place has the name
+abbrev pub has_name : List ℕ → Place → Bool
+has_name name p = same_name p.name name
+
 -- one of the places has the name
 abbrev pub declares : List Place → List ℕ → Bool
-declares [] name = false
-declares (p ∷ ps) name = same_name p.name name || declares ps name
+declares ps name = list_any (has_name name) ps
 
 -- the range of floors and ceilings
 abbrev pub least : ℤ

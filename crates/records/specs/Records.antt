@@ -1,7 +1,7 @@
 -- A line by its fields. Assumes nothing.
 use Rattle.std.specs.Prelude.{ℕ, cond, List, [], ◌∷◌, length, Some, None, Option}
 use Rattle.text.specs.Fields.{fields_of, fields_left, others}
-use Rattle.records.specs.declared.kind.SpanKind.{SpanKind}
+use Rattle.sheets.specs.declared.title.SpanKind.{SpanKind}
 use Rattle.records.specs.declared.record.Word.{Word}
 use Rattle.records.specs.declared.record.Word.TheVariants as word
 use Rattle.records.specs.declared.record.Record.{Record}

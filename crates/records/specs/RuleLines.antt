@@ -4,10 +4,10 @@ use Rattle.spans.specs.Amounts.{from_to}
 use Rattle.spans.specs.Bounds.{bounded}
 use Rattle.spans.specs.Masks.{tokens}
 use Rattle.text.specs.Fields.{fields_of}
-use Rattle.records.specs.declared.fault.SheetFault.{SheetFault}
-use Rattle.records.specs.declared.fault.SheetFault.TheVariants as fault
-use Rattle.records.specs.declared.kind.SpanKind.{SpanKind}
-use Rattle.records.specs.declared.kind.SpanKind.TheVariants.{Amounts, Choices}
+use Rattle.sheets.specs.declared.fault.SheetFault.{SheetFault}
+use Rattle.sheets.specs.declared.fault.SheetFault.TheVariants as fault
+use Rattle.sheets.specs.declared.title.SpanKind.{SpanKind}
+use Rattle.sheets.specs.declared.title.SpanKind.TheVariants.{Amounts, Choices}
 use Rattle.records.specs.declared.record.Word.{Word}
 use Rattle.records.specs.declared.record.Word.TheVariants.{Title, Place, Sum, Pair, Apart}
 use Rattle.records.specs.declared.places.Opening.{Opening}

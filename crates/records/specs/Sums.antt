@@ -10,8 +10,8 @@ use Rattle.text.specs.declared.fault.At.{At}
 use Rattle.text.specs.declared.fault.FieldFault.{FieldFault}
 use Rattle.text.specs.declared.fault.FieldFault.TheVariants.{Malformed, OutOfRange}
 use Rattle.text.specs.Numbers.{number_in}
-use Rattle.records.specs.declared.fault.SheetFault.{SheetFault}
-use Rattle.records.specs.declared.fault.SheetFault.TheVariants.{Name}
+use Rattle.sheets.specs.declared.fault.SheetFault.{SheetFault}
+use Rattle.sheets.specs.declared.fault.SheetFault.TheVariants.{Name}
 use Rattle.records.specs.declared.sums.Terms.{Terms}
 use Rattle.records.specs.Places.{Place}
 use Rattle.records.specs.Names.{known_place}

@@ -1,8 +1,8 @@
 -- The words of lines, and how many fields a line with a word has. Assumes nothing.
 use Rattle.std.specs.Prelude.{ℕ, ◌%◌, Bool, cond, ◌&&◌, List, Some, None, codes, Option, ◌==◌, nat_le}
 use Rattle.std.specs.Str.{bytes_eq}
-use Rattle.records.specs.declared.kind.SpanKind.{SpanKind}
-use Rattle.records.specs.declared.kind.SpanKind.TheVariants.{Amounts, Choices}
+use Rattle.sheets.specs.declared.title.SpanKind.{SpanKind}
+use Rattle.sheets.specs.declared.title.SpanKind.TheVariants.{Amounts, Choices}
 use Rattle.records.specs.declared.record.Word.{Word}
 use Rattle.records.specs.declared.record.Word.TheVariants.{Title, Place, Sum, Pair, Apart}
 

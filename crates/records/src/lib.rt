@@ -2,7 +2,6 @@
 // Nothing here copies a byte of the sheet: names and fields are parts of it.
 #![tactic(auto)]
 
-pub mod fault;
 pub mod kind;
 pub mod names;
 mod numbers;
@@ -13,10 +12,10 @@ mod sums;
 pub mod title;
 mod two;
 
-pub use fault::SheetFault;
-pub use kind::{SheetKind, SpanKind};
+pub use kind::SheetKind;
 pub use names::Names;
 pub use places::{Opening, PlaceRow, read_place};
 pub use record::{Word, line_word};
 pub use row::RuleRow;
+pub use sheets::{SheetFault, SpanKind};
 pub use title::{check_title, title_kind};

@@ -3,10 +3,9 @@ ghost use Rattle.std.specs.Prelude.{◌≡◌, map};
 ghost use Rattle.text.specs.Fields.{fields_left};
 ghost use Rattle.records.specs.Places.{place_shown, declares, opening_of, place_line, shown_place};
 
-use crate::fault::SheetFault;
-use crate::kind::SpanKind;
 use crate::numbers::{count, whole};
 use crate::record::{Record, Word, next_field, word_record};
+use sheets::{SheetFault, SpanKind};
 use text::{At, FieldFault, Fields, name, same_name};
 
 const MILLION: i32 = 1_000_000;
@@ -31,12 +30,7 @@ pub struct PlaceRow<'s> {
 fn is_declared(places: &[PlaceRow], name: &[u8]) -> bool
     ensures { result ≡ declares (map place_shown places.now) name.now }
 {
-    for place in places {
-        if same_name(place.name, name) {
-            return true;
-        }
-    }
-    false
+    places.iter().any(|place| same_name(place.name, name))
 }
 
 // What the numbers of a place line open: fault 4 or 5 at the first field that is wrong.

@@ -5,7 +5,7 @@ ghost use Rattle.text.specs.Fields.{fields_of, fields_left, others};
 ghost use Rattle.records.specs.Words.{word_of, field_count_fits};
 ghost use Rattle.records.specs.Records.{head, record_of, counted, record_of_line, shown_record, shown_line};
 
-use crate::kind::SpanKind;
+use sheets::SpanKind;
 use text::{Fields, field_count};
 
 // The words with which lines begin. A title begins with one of two.
@@ -60,10 +60,7 @@ pub(crate) fn next_field<'s>(fields: &mut Fields<'s>) -> &'s [u8]
     ensures field { result.now ≡ head (fields_left fields.old) }
     ensures left { fields_left fields.new ≡ others (fields_left fields.old) }
 {
-    match fields.next() {
-        Some(field) => field,
-        None => b"",
-    }
+    fields.next().unwrap_or(b"")
 }
 
 // The word that a field is.

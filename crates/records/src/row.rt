@@ -1,7 +1,7 @@
 // The rows that rule lines fill: sums on sheets of amounts, pair and apart rules on sheets of choices.
 ghost use Rattle.std.specs.Prelude.{◌≡◌, ℤ};
-ghost use Rattle.records.specs.declared.kind.SpanKind.{SpanKind};
-ghost use Rattle.records.specs.declared.kind.SpanKind.TheVariants.{Amounts, Choices};
+ghost use Rattle.sheets.specs.declared.title.SpanKind.{SpanKind};
+ghost use Rattle.sheets.specs.declared.title.SpanKind.TheVariants.{Amounts, Choices};
 ghost use Rattle.text.specs.Fields.{fields_of};
 ghost use Rattle.records.specs.Names.{named};
 ghost use Rattle.records.specs.Rules.{Row};
@@ -9,8 +9,6 @@ ghost use Rattle.records.specs.Sums.{sum_shown};
 ghost use Rattle.records.specs.Between.{choice_shown};
 ghost use Rattle.records.specs.RuleLines.{sum_line_of, pair_line_of, apart_line_of, rule_line_of, shown_rule, opens};
 
-use crate::fault::SheetFault;
-use crate::kind::SpanKind;
 use crate::names::Names;
 use crate::places::Opening;
 use crate::record::{Record, Word, line_word, word_record};
@@ -18,6 +16,7 @@ use crate::sums::read_sum;
 use crate::two::{read_apart, read_pair};
 use rules::choices::ChoiceRow;
 use rules::sums::SumRow;
+use sheets::{SheetFault, SpanKind};
 use spans::{Amount, Choice, Span};
 
 // A row of a table that the rule lines of one kind of sheet fill.

@@ -4,11 +4,11 @@ ghost use Rattle.text.specs.Fields.{fields_left};
 ghost use Rattle.records.specs.Names.{named};
 ghost use Rattle.records.specs.Sums.{relation_at, coefficient_at, term_of, terms_from, sum_fields, shown_terms, shown_sum};
 
-use crate::fault::SheetFault;
 use crate::names::Names;
 use crate::numbers::whole;
 use crate::record::{is_word, next_field};
 use rules::sums::{Relation, SumRow, Term, uses_place};
+use sheets::SheetFault;
 use text::{At, FieldFault, Fields, number_within};
 
 const MOST_BOUND: i64 = 1_000_000_000_000;

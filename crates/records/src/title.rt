@@ -2,9 +2,9 @@
 ghost use Rattle.std.specs.Prelude.{◌≡◌};
 ghost use Rattle.records.specs.Titles.{sheet_word, span_word, title_checked, first_kind, kind_of_line};
 
-use crate::fault::SheetFault;
-use crate::kind::{SheetKind, SpanKind};
+use crate::kind::SheetKind;
 use crate::record::{Record, is_word, line_record};
+use sheets::{SheetFault, SpanKind};
 use text::Lines;
 
 // Whether the bytes are the word of such a sheet.

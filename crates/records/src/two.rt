@@ -4,12 +4,12 @@ ghost use Rattle.text.specs.Fields.{fields_left};
 ghost use Rattle.records.specs.Names.{named};
 ghost use Rattle.records.specs.Between.{two_places, tokens_at, tokens_from, pair_fields, apart_fields, shown_tokens, shown_pairs, shown_pair, shown_apart};
 
-use crate::fault::SheetFault;
 use crate::names::Names;
 use crate::numbers::count;
 use crate::record::next_field;
 use books::Place;
 use rules::choices::{ApartRow, PairRow, TokenPair};
+use sheets::SheetFault;
 use text::{At, FieldFault, Fields};
 
 const LAST_TOKEN: u8 = 63;

@@ -1,18 +1,11 @@
 -- The answer of a rule between two places, way by way. Assumes nothing.
-use Rattle.std.proofs.Common.{◌≡◌, ℕ, zero, suc, ◌<◌, Bool, true, false, cond, eqb, List, [], ◌∷◌, length, get_or, sym, refl, ap, ◌∙◌, arith}
-use Rattle.std.proofs.lemmas.List.{get_or_read}
+use Rattle.std.proofs.Common.{◌≡◌, ℕ, Bool, true, false, cond, eqb, sym, refl, ◌∙◌}
 use Rattle.std.proofs.lemmas.Bool.{eq-eqb, ne_eqb, or_from, or_left, or_right, cond-true, cond-false}
-use Rattle.spans.specs.Choices.{choice_size, no_choice}
-use Rattle.spans.specs.ChoiceKind.{choices}
+use Rattle.spans.specs.Choices.{choice_size}
 use Rattle.spans.specs.declared.choice.Choice.{Choice}
-use Rattle.books.specs.Boards.{span_at}
 use Rattle.rules.specs.declared.choices.side.Side.TheVariants.{First, Second}
 use Rattle.rules.specs.TokenSets.{keeping}
 use Rattle.rules.specs.Between.{Between, answer_from}
-
--- the span that was read at a place
-pub read_span : (board : List Choice) (p q : ℕ) (span : Choice) → p < length board → span ≡ get_or board p span → p ≡ q → span ≡ span_at choices board q
-read_span board p q span h is e = get_or_read board p span h is no_choice ∙ ap (span_at choices board) e
 
 either_way : (e : Bool) (one two : Choice) → two ≡ one → cond e one two ≡ one
 either_way true one two h = refl
@@ -39,15 +32,3 @@ module _ (link : Between) (p : ℕ) (span one two : Choice) where
     pub at_second : (r : Choice) → r ≡ keeping span (link.stays Second one) → (p ≡ link.first → ⊥) → p ≡ link.second → r ≡ answer_from link p span one two
     unfolding answer_from
     at_second r is n e = is ∙ sym (cond-false _ _ _ (or_from _ _ some other) ∙ cond-false _ _ _ (ne_eqb p link.first n) ∙ cond-true _ _ _ (eq-eqb p link.second e))
-
--- ---- the places of a rule, by their numbers
-
-pub only_at : (i : ℕ) → get_or {A = ℕ} (0 ∷ []) i 0 ≡ 0
-only_at zero = refl
-only_at (suc i) = refl
-
-pub first_at : (f s i : ℕ) → i ≡ 0 → get_or (f ∷ s ∷ []) i 0 ≡ f
-first_at f s i e = ap (λ (n : ℕ). get_or (f ∷ s ∷ []) n 0) e
-
-pub second_at : (f s i : ℕ) → i < 2 → (i ≡ 0 → ⊥) → get_or (f ∷ s ∷ []) i 0 ≡ s
-second_at f s i h n = let one : i ≡ 1 = omega arith in ap (λ (k : ℕ). get_or (f ∷ s ∷ []) k 0) one

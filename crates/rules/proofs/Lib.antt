@@ -4,6 +4,7 @@ pub mod Joining
 pub mod Filling
 pub mod Links
 pub mod Partners
+pub mod RowLaws
 pub mod ChoiceLaws
 pub mod Answering
 pub mod SumProducts
@@ -14,7 +15,6 @@ pub mod SumTotals
 pub mod SumIndexes
 pub mod SumAnswers
 pub mod SumLaws
-pub mod SumBooking
 pub mod SumProjections
 pub mod SumConsistent
 pub mod SumExample

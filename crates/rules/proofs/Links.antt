@@ -13,7 +13,8 @@ use Rattle.rules.specs.declared.choices.side.Side.TheVariants.{First, Second}
 use Rattle.rules.specs.Sides.{across}
 use Rattle.rules.specs.TokenSets.{keeping}
 use Rattle.rules.specs.Between.{Between, place_on_side, answer_from, answer_between, between}
-use Rattle.rules.specs.ArcConsistency.{ArcConsistent, Calm}
+use Rattle.rules.specs.ArcConsistency.{ArcConsistent}
+use Rattle.rules.specs.RowBooks.{Calm}
 use Rattle.rules.proofs.Keeping.{keeping_admits, kept_is}
 
 -- a number on a side and one on the other obey the rule
@@ -143,7 +144,7 @@ module _ (places : ℕ) (link : Between) (P : Partnered link) (d : link.first �
   Supported : Side → List Choice → Type 0
   Supported side b = (x : ℤ) → T (choice_admits (span_at choices b (place_on_side link side)) x) → (y : ℤ) × T (choice_admits (span_at choices b (place_on_side link (across side))) y) × T (agree_on link side x y)
 
-  supported : (b : List Choice) → Full choices places b → Calm places (between link) b → (side : Side) → Supported side b
+  supported : (b : List Choice) → Full choices places b → Calm choices places (between link) b → (side : Side) → Supported side b
   unfolding Supported
   supported b f calm side (negsuc n) h = absurd h
   supported b f calm side (pos t) h =
@@ -161,7 +162,7 @@ module _ (places : ℕ) (link : Between) (P : Partnered link) (d : link.first �
       (λ h. let q = sup (pos t) h in join (choice_admits span (pos t)) (link.stays side other t) h (P.stay side other t q.0 q.1 q.2))
       (λ h. (both (choice_admits span (pos t)) (link.stays side other t) h).0)))
 
-  pub arc_consistent : (b : List Choice) → Full choices places b → Calm places (between link) b ↔ ArcConsistent link b
+  pub arc_consistent : (b : List Choice) → Full choices places b → Calm choices places (between link) b ↔ ArcConsistent link b
   unfolding Supported
   arc_consistent b f = (
     λ calm. record { first = supported b f calm First; second = supported b f calm Second },

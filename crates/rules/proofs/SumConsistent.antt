@@ -11,12 +11,13 @@ use Rattle.books.specs.Settled.{Settled}
 use Rattle.books.specs.Meaning.{Rule}
 use Rattle.books.proofs.Filters.{among_or_not}
 use Rattle.rules.specs.SumTerms.{place_of}
-use Rattle.rules.specs.SumRows.{blank, terms_of}
+use Rattle.rules.specs.SumRows.{blank, boards_of, terms_of}
 use Rattle.rules.specs.Sums.{total, product_in, sum_of, stands, others, least_on, greatest_on, least_product_of, greatest_product_of, low, high, coefficient_at, may_stay}
 use Rattle.rules.specs.BookCounts.{place_count, rule_count}
-use Rattle.rules.specs.SumBooks.{rule_at, sum_book_of}
+use Rattle.rules.specs.SumBooks.{rule_of, sum_book_of}
+use Rattle.rules.specs.RowBooks.{Calm}
 use Rattle.rules.specs.SumIntervals.{projected}
-use Rattle.rules.specs.SumConsistency.{rule_of, place_of_term, FullFor, ExactLaw, Calm, BoundsConsistent, BoundsLaw, Inequality, ArcLaw, AllConsistent, SettledLaw}
+use Rattle.rules.specs.SumConsistency.{place_of_term, FullFor, ExactLaw, BoundsConsistent, BoundsLaw, Inequality, ArcLaw, AllConsistent, SettledLaw}
 use Rattle.rules.specs.declared.sums.term.Relation.{Relation}
 use Rattle.rules.specs.declared.sums.term.Relation.TheVariants.{AtMost, AtLeast, Equal}
 use Rattle.rules.specs.declared.sums.term.Term.{Term}
@@ -25,7 +26,7 @@ use Rattle.rules.proofs.SumTotals.{total_same, total_split, other_among, at_amon
 use Rattle.rules.proofs.SumIndexes.{Fair, sum_fair, places_counted, places_once, index_of}
 use Rattle.rules.proofs.SumAnswers.{row_sum}
 use Rattle.rules.proofs.SumLaws.{index, coefficient_good, answer_exact, sum_sound}
-use Rattle.rules.proofs.SumBooking.{rule_same, rule_other}
+use Rattle.rules.proofs.RowLaws.{rule_at, own_rule, no_rule_lem}
 use Rattle.rules.proofs.SumProjections.{may_projected, rounding}
 
 -- a place has one term
@@ -67,14 +68,14 @@ module _ (row : SumRow) where
       kept_exactly i b x h f
       ∙ ap (λ (t : Bool). amount_admits (span_at amounts b (place_of_term row i)) x && t) (may_projected row.relation row.bound (terms_of row) i b x (coefficient_good row.places row.relation row.bound (terms_of row) fair i h))
 
-  calm_consistent : (b : List Amount) → FullFor row b → Calm row b → BoundsConsistent row b
+  calm_consistent : (b : List Amount) → FullFor row b → Calm amounts row.places (rule_of row) b → BoundsConsistent row b
   calm_consistent b f c i h x t =
       let p = place_of_term row i in
       let l = places_counted row.places (terms_of row) fair.good p (place_among (terms_of row) (get_or (terms_of row) i blank) (at_among i (terms_of row) h)) in
       let s = subst (λ (a : Amount). T (amount_admits a x)) (sym (c p l)) t in
       (both (amount_admits (span_at amounts b p) x) _ (subst T (cut_to_lem i b x h f) s)).1
 
-  consistent_calm : (b : List Amount) → FullFor row b → BoundsConsistent row b → Calm row b
+  consistent_calm : (b : List Amount) → FullFor row b → BoundsConsistent row b → Calm amounts row.places (rule_of row) b
   consistent_calm b f c p l = go (among_or_not p (map place_of (terms_of row)))
     where
       same : (i : ℕ) → i < length (terms_of row) → (rule_of row).answer (place_of_term row i) b ≡ span_at amounts b (place_of_term row i)
@@ -267,18 +268,18 @@ settled_law places rows b = (consistent, settled)
       s.full,
       λ r d h e.
           let row = get_or rows r d in
-          let same = rule_same (place_count places) rows r d (omega arith) e in
+          let same = own_rule amounts boards_of rule_of (place_count places) rows r d (omega arith) e in
           calm_consistent row b (subst (λ (k : ℕ). Full amounts k b) (sym e) s.full) (λ p l. ap (λ (rule : Rule Amount). rule.answer p b) (sym same) ∙ s.calm r p h (subst (λ (k : ℕ). p < k) e l)),
     )
 
     settled : Full amounts (place_count places) b × AllConsistent (place_count places) (rule_count (length rows)) rows b → Settled amounts (sum_book_of places rows) b
     settled z = record { full = z.0; calm = λ r p h l. each r p h l (first_row rows r (omega arith)) }
       where
-        each : (r p : ℕ) → r < rule_count (length rows) → p < place_count places → SumRow → (rule_at (place_count places) rows r).answer p b ≡ span_at amounts b p
+        each : (r p : ℕ) → r < rule_count (length rows) → p < place_count places → SumRow → (rule_at amounts boards_of rule_of (place_count places) rows r).answer p b ≡ span_at amounts b p
         each r p h l d = go (cases_eq (get_or rows r d).places (place_count places))
           where
-            go : ((get_or rows r d).places ≡ place_count places) ⊎ ((get_or rows r d).places ≡ place_count places → ⊥) → (rule_at (place_count places) rows r).answer p b ≡ span_at amounts b p
+            go : ((get_or rows r d).places ≡ place_count places) ⊎ ((get_or rows r d).places ≡ place_count places → ⊥) → (rule_at amounts boards_of rule_of (place_count places) rows r).answer p b ≡ span_at amounts b p
             go (inl e) =
-                ap (λ (rule : Rule Amount). rule.answer p b) (rule_same (place_count places) rows r d (omega arith) e)
+                ap (λ (rule : Rule Amount). rule.answer p b) (own_rule amounts boards_of rule_of (place_count places) rows r d (omega arith) e)
                 ∙ consistent_calm (get_or rows r d) b (subst (λ (k : ℕ). Full amounts k b) (sym e) z.0) (z.1 r d h e) p (subst (λ (k : ℕ). p < k) (sym e) l)
-            go (inr e) = ap (λ (rule : Rule Amount). rule.answer p b) (rule_other (place_count places) rows r d (omega arith) e)
+            go (inr e) = ap (λ (rule : Rule Amount). rule.answer p b) (no_rule_lem amounts boards_of rule_of (place_count places) rows r d (omega arith) e)

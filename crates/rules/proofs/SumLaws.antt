@@ -1,21 +1,19 @@
 -- Sums keep the laws of rules. Assumes nothing.
-use Rattle.std.proofs.Common.{◌≡◌, ℕ, zero, suc, ◌+◌, ◌<◌, ◌≤◌, Bool, true, false, ◌&&◌, T, eqb, List, [], ◌∷◌, map, length, get_or, ℤ, ◌+ℤ◌, ◌-ℤ◌, ◌*ℤ◌, ◌≤ℤ◌, Some, None, Option, sym, refl, ap, ◌∙◌, subst, ap₂, inl, inr, arith}
+use Rattle.std.proofs.Common.{◌≡◌, ℕ, ◌+◌, ◌<◌, ◌≤◌, Bool, true, false, ◌&&◌, T, List, [], ◌∷◌, map, length, get_or, ℤ, ◌+ℤ◌, ◌-ℤ◌, ◌*ℤ◌, ◌≤ℤ◌, Some, None, Option, sym, refl, ap, ◌∙◌, subst, ap₂, inl, arith}
 use lib.Signed.{le_z, le_z_yes}
 use Rattle.std.proofs.lemmas.List.{length-map}
 use Rattle.std.proofs.lemmas.Int.{ints}
-use Rattle.std.proofs.lemmas.Bool.{eqb-true, cond_both}
 use Rattle.spans.specs.Bools.{both, join, alike}
 use Rattle.spans.specs.Amounts.{amount_admits}
 use Rattle.spans.specs.AmountKind.{amounts}
 use Rattle.spans.specs.declared.amount.Amount.{Amount}
 use Rattle.books.specs.Boards.{Among, span_at, number_at, Full, Inside, On}
-use Rattle.books.specs.Meaning.{Sound, Lawful}
-use Rattle.books.proofs.Filters.{Filter, filter_sound, idle_sound, one_number}
-use Rattle.rules.specs.SumTerms.{place_of, sum_test}
+use Rattle.books.specs.Meaning.{Sound}
+use Rattle.books.proofs.Filters.{Filter, filter_sound, one_number}
+use Rattle.rules.specs.SumTerms.{place_of}
 use Rattle.rules.specs.SumRows.{blank, terms_of}
 use Rattle.rules.specs.Sums.{total, product_in, sum_of, stands, others, least_on, greatest_on, least_product_of, greatest_product_of, low, high, coefficient_at, keep_at_most, cut, may_stay, index_from, answered, sum_rule}
-use Rattle.rules.specs.BookCounts.{place_count}
-use Rattle.rules.specs.SumBooks.{rule_none, row_rule, rule_at, sum_book_of}
+use Rattle.rules.specs.SumBooks.{rule_of}
 use Rattle.rules.specs.declared.sums.term.Relation.{Relation}
 use Rattle.rules.specs.declared.sums.term.Relation.TheVariants.{AtMost, AtLeast, Equal}
 use Rattle.rules.specs.declared.sums.term.Term.{Term}
@@ -246,31 +244,6 @@ module _ (places : ℕ) (relation : Relation) (bound : ℤ) (ts : List Term) (fa
   pub sum_sound : Sound amounts places (sum_rule relation bound ts)
   sum_sound = filter_sound amounts places (sum_rule relation bound ts) test filter
 
--- ---- books
-
-module _ (places : ℕ) (some : 1 ≤ places) where
-  no_rule_sound : Sound amounts places rule_none
-  no_rule_sound = idle_sound amounts places (0 ∷ []) (omega arith) (omega arith) (λ p m. zero_place p m) (λ m. m, tt)
-    where
-      zero_place : (p : ℕ) → Among p (0 ∷ []) → p < places
-      zero_place p (inl e) = omega arith
-      zero_place p (inr m) = absurd m
-
-  row_sound : (row : SumRow) → Sound amounts places (row_rule places row)
-  row_sound row =
-      cond_both (eqb row.places places) (sum_rule row.relation row.bound (terms_of row)) rule_none (Sound amounts places)
-      (λ e. sum_sound places row.relation row.bound (terms_of row) (sum_fair places row.bound (terms_of row) (subst (λ (n : ℕ). T (sum_test n row.bound (terms_of row))) (eqb-true row.places places e) (row_sum row))))
-      (λ e. no_rule_sound)
-
-  rule_sound : (rows : List SumRow) (r : ℕ) → Sound amounts places (rule_at places rows r)
-  rule_sound [] r = no_rule_sound
-  rule_sound (row ∷ rows) zero = row_sound row
-  rule_sound (row ∷ rows) (suc r) = rule_sound rows r
-
-pub book_lawful : (places : ℕ) (rows : List SumRow) → Lawful amounts (sum_book_of places rows)
-book_lawful places rows = record {
-  some_place = omega arith;
-  few_places = omega arith;
-  few_rules = omega arith;
-  each = λ r h. rule_sound (place_count places) (omega arith) rows r;
-}
+-- each row keeps the laws of rules on the boards that it is for
+pub row_sound : (row : SumRow) → Sound amounts row.places (rule_of row)
+row_sound row = sum_sound row.places row.relation row.bound (terms_of row) (sum_fair row.places row.bound (terms_of row) (row_sum row))

@@ -14,6 +14,7 @@ pub mod SumRows
 pub mod Sums
 pub mod SumPasses
 pub mod BookCounts
+pub mod RowBooks
 pub mod SumBooks
 pub mod SumIntervals
 pub mod SumConsistency

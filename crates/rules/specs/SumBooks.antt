@@ -1,31 +1,17 @@
 -- Books of sums. Assumes nothing.
-use Rattle.std.specs.Prelude.{ℕ, zero, suc, cond, List, [], ◌∷◌, length, ◌==◌}
+use Rattle.std.specs.Prelude.{ℕ, List}
 use Rattle.spans.specs.AmountKind.{amounts}
 use Rattle.spans.specs.declared.amount.Amount.{Amount}
-use Rattle.books.specs.Meaning.{Meaning, Rule, idle}
-use Rattle.rules.specs.BookCounts.{place_count, rule_count}
-use Rattle.rules.specs.SumRows.{terms_of}
+use Rattle.books.specs.Meaning.{Meaning, Rule}
+use Rattle.rules.specs.RowBooks.{row_book_of}
+use Rattle.rules.specs.SumRows.{terms_of, boards_of}
 use Rattle.rules.specs.Sums.{sum_rule}
 use Rattle.rules.specs.declared.sums.row.SumRow.{SumRow}
 
--- the rule of place 0 that strikes nothing
-abbrev pub rule_none : Rule Amount
-rule_none = idle amounts (0 ∷ [])
-
--- the rule of a row in a book of so many places: it strikes nothing where the row is for other boards
-abbrev pub row_rule : ℕ → SumRow → Rule Amount
-row_rule places row = cond (row.places == places) (sum_rule row.relation row.bound (terms_of row)) rule_none
-
--- the rule of a number
-abbrev pub rule_at : ℕ → List SumRow → ℕ → Rule Amount
-rule_at places [] r = rule_none
-rule_at places (row ∷ rows) zero = row_rule places row
-rule_at places (row ∷ rows) (suc r) = rule_at places rows r
+-- the rule of a row on the boards that it is for
+abbrev pub rule_of : SumRow → Rule Amount
+rule_of row = sum_rule row.relation row.bound (terms_of row)
 
 -- the book of rows, by a count of places that may be out of range
 abbrev pub sum_book_of : ℕ → List SumRow → Meaning Amount
-sum_book_of places rows = record {
-  places = place_count places;
-  rules = rule_count (length rows);
-  rule = rule_at (place_count places) rows;
-}
+sum_book_of = row_book_of amounts boards_of rule_of

@@ -4,22 +4,19 @@ use Rattle.spans.specs.Amounts.{amount_admits, amount_size}
 use Rattle.spans.specs.AmountKind.{amounts}
 use Rattle.spans.specs.declared.amount.Amount.{Amount}
 use Rattle.books.specs.Boards.{Among, span_at, number_at, Full, On}
-use Rattle.books.specs.Meaning.{Rule}
 use Rattle.books.specs.Settled.{Settled}
 use Rattle.rules.specs.SumTerms.{place_of}
 use Rattle.rules.specs.SumRows.{blank, terms_of}
-use Rattle.rules.specs.Sums.{least_product_of, greatest_product_of, may_stay, sum_rule}
+use Rattle.rules.specs.Sums.{least_product_of, greatest_product_of, may_stay}
 use Rattle.rules.specs.BookCounts.{place_count, rule_count}
-use Rattle.rules.specs.SumBooks.{sum_book_of}
+use Rattle.rules.specs.SumBooks.{rule_of, sum_book_of}
+use Rattle.rules.specs.RowBooks.{Calm}
 use Rattle.rules.specs.SumIntervals.{Rational, whole, NotAbove, round_down, round_up, projected}
 use Rattle.rules.specs.declared.sums.term.Relation.{Relation}
 use Rattle.rules.specs.declared.sums.term.Relation.TheVariants.{AtMost, AtLeast, Equal}
 use Rattle.rules.specs.declared.sums.row.SumRow.{SumRow}
 
--- the rule of a row on the boards that it is for, and the place of its term at an index
-abbrev pub rule_of : SumRow → Rule Amount
-rule_of row = sum_rule row.relation row.bound (terms_of row)
-
+-- the place of a row's term at an index
 abbrev pub place_of_term : SumRow → ℕ → ℕ
 place_of_term row i = (get_or (terms_of row) i blank).place
 
@@ -35,10 +32,6 @@ pub record ExactLaw (row : SumRow) : Type 0 where
   pub least : (a : ℤ) (s : Amount) → 0 < amount_size s → ((x : ℤ) → T (amount_admits s x) → least_product_of a s ≤ℤ (a *ℤ x)) × ((x : ℤ) × T (amount_admits s x) × (least_product_of a s ≡ a *ℤ x))
   pub greatest : (a : ℤ) (s : Amount) → 0 < amount_size s → ((x : ℤ) → T (amount_admits s x) → (a *ℤ x) ≤ℤ greatest_product_of a s) × ((x : ℤ) × T (amount_admits s x) × (greatest_product_of a s ≡ a *ℤ x))
 
--- every answer of the rule equals the board's span
-abbrev pub Calm : SumRow → List Amount → Type 0
-Calm row b = (p : ℕ) → p < row.places → (rule_of row).answer p b ≡ span_at amounts b p
-
 -- the sum is bounds consistent: the interval of each of its places lies inside the whole numbers of the projection on it
 abbrev pub BoundsConsistent : SumRow → List Amount → Type 0
 BoundsConsistent row b = (i : ℕ) → i < length (terms_of row) → (x : ℤ) → T (amount_admits (span_at amounts b (place_of_term row i)) x) → T (projected row.relation row.bound (terms_of row) i b x)
@@ -50,7 +43,7 @@ pub record RoundingLaw : Type 0 where
 
 -- a board without an empty span is settled under the sum exactly when the sum is bounds consistent there, and an answer is the span cut to the projection
 pub record BoundsLaw (row : SumRow) : Type 0 where
-  pub settled : (b : List Amount) → FullFor row b → Calm row b ↔ BoundsConsistent row b
+  pub settled : (b : List Amount) → FullFor row b → Calm amounts row.places (rule_of row) b ↔ BoundsConsistent row b
   pub cut : (i : ℕ) (b : List Amount) (x : ℤ) → i < length (terms_of row) → FullFor row b
       → amount_admits ((rule_of row).answer (place_of_term row i) b) x ≡ (amount_admits (span_at amounts b (place_of_term row i)) x && projected row.relation row.bound (terms_of row) i b x)
   pub rounding : RoundingLaw

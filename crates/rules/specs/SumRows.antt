@@ -10,6 +10,10 @@ use Rattle.rules.specs.declared.sums.row.SumRow.{SumRow}
 abbrev pub terms_of : SumRow → List Term
 terms_of row = take row.count row.terms
 
+-- how many places the boards have that a row is for
+abbrev pub boards_of : SumRow → ℕ
+boards_of row = row.places
+
 -- whether a term has the place
 abbrev pub uses : List Term → ℕ → Bool
 uses ts place = has place (map place_of ts)

@@ -9,7 +9,7 @@ pub mod token;
 mod tokens;
 
 pub use apart::{ApartRow, kept_apart};
-pub use arc::arc_consistency;
+pub use arc::{arc_consistency, settled_is_all_arc_consistent};
 pub use book::ChoiceBook;
 pub use pair::PairRow;
 pub use row::ChoiceRow;

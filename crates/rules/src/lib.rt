@@ -2,5 +2,6 @@
 #![tactic(auto)]
 
 pub mod choices;
+pub mod rows;
 pub mod sums;
 pub mod worked;

@@ -18,27 +18,15 @@ fn first_line(sheet: &[u8]) -> Result<Option<&[u8]>, FieldFault>
     ensures { shown_first result ≡ first_line_of sheet.now }
 {
     check_size(sheet)?;
-    let mut lines = Lines::new(sheet);
-    let line = lines.next()?;
-    Ok(line)
-}
-
-// How many lines there are.
-fn line_total(sheet: &[u8]) -> Result<usize, FieldFault>
-    ensures { result ≡ line_total_of sheet.now }
-{
-    let lines = line_count(sheet)?;
-    Ok(lines)
+    Ok(Lines::new(sheet).next()?)
 }
 
 // The outline of a game sheet, or the first fault that its text and its title show.
 pub fn read_outline(sheet: &[u8]) -> Result<Outline, SheetFault>
     ensures { result ≡ outline_of sheet.now }
 {
-    let Some(first) = first_line(sheet)? else {
-        return Err(SheetFault::Title);
-    };
+    let first = first_line(sheet)?.ok_or(SheetFault::Title)?;
     let kind = game_title(first)?;
-    let lines = line_total(sheet)?;
+    let lines = line_count(sheet).map_err(FieldFault::from)?;
     Ok(Outline { kind, lines })
 }

@@ -1,6 +1,6 @@
 // Sheets with and without an outline.
 use crate::*;
-use text::{FieldFault, TextFault};
+use text::{Fault, FieldFault, TextFault};
 
 // A sheet's kind and count of lines, or its fault.
 fn outlined(sheet: &[u8]) -> Result<(SpanKind, usize), SheetFault> {

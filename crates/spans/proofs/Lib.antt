@@ -2,3 +2,4 @@ pub mod Counting
 pub mod Sizes
 pub mod Amounting
 pub mod Masking
+pub mod Texting

@@ -13,3 +13,4 @@ pub mod BoundLaws
 pub mod AmountLaws
 pub mod MaskLaws
 pub mod ChoiceLaws
+pub mod Texts

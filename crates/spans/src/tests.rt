@@ -48,3 +48,15 @@ fn common_choices(rt: HostRuntime) {
     assert!(rt; low.common(odd).is_narrower(low));
     assert!(rt; low.common(Choice::only(3)).is_empty());
 }
+
+#[test]
+fn texts(rt: HostRuntime) -> Result<(), Fail> {
+    let alloc = rt.alloc();
+    assert_eq!(rt; Amount::new(-4, 8)?.to_string(alloc)?.as_str(), "-4..8");
+    assert_eq!(rt;
+        Choice::first(2).with(63).to_string(alloc)?.as_str(),
+        "{ 0 1 63 }"
+    );
+    assert_eq!(rt; Choice::empty().to_string(alloc)?.as_str(), "{ }");
+    Ok(())
+}

@@ -5,7 +5,7 @@ use Rattle.std.proofs.lemmas.Bool.{cond-false, ltb-false, le-ltb}
 use Rattle.std.specs.List.{AllByRecursion}
 use Rattle.text.specs.declared.fault.TextFault.{TextFault}
 use Rattle.text.specs.declared.fault.TextFault.TheVariants.{TooBig, TooLong}
-use Rattle.text.specs.Parts.{cut_at, joined_by, led, Lacks, Parted}
+use Rattle.text.specs.Parts.{cut_at, joined_by, Lacks, Parted}
 use Rattle.text.specs.Lines.{stay, end_step, step_of, line_next, ending, infront, line_then, lines_in, sheet_lines, counted, ended, Lined, LinesLaw}
 use Rattle.text.proofs.Cutting.{cut_joined, cut_lacks, joined_cut, cut_some, parts_law}
 
@@ -51,18 +51,18 @@ pub next_some : (read : ℕ) (left line : List ℕ) → (line_next read left).an
 next_some read left line e = go (cut_at 10 left) (cut_joined 10 left) e
   where
     last : (t : Bool) (l : List ℕ) → let s = cond t (stay (Err (TooLong (read + 1))) read left) (end_step read left l) in s.answer ≡ Ok (Some line) → ⊥
-    last true l e = let z : ◌≡◌ {A = ℕ} 0 1 = cc in omega arith
-    last false [] e = let z : ◌≡◌ {A = ℕ} 0 1 = cc in omega arith
-    last false (b ∷ l) e = let z : ◌≡◌ {A = ℕ} 0 1 = cc in omega arith
+    last true l e = cc
+    last false [] e = cc
+    last false (b ∷ l) e = cc
 
     more_lines : (t : Bool) (l rest : List ℕ) → length rest < length left → let s = cond t (stay (Err (TooLong (read + 1))) read left) (record { answer = Ok (Some l); left = rest; read = read + 1 }) in s.answer ≡ Ok (Some line) → (s.read ≡ read + 1) × (length s.left < length left)
-    more_lines true l rest h e = let z : ◌≡◌ {A = ℕ} 0 1 = cc in absurd (omega arith)
+    more_lines true l rest h e = cc
     more_lines false l rest h e = (refl, h)
 
     go : (parts : List (List ℕ)) → joined_by 10 parts ≡ left → let s = step_of read left parts in s.answer ≡ Ok (Some line) → (s.read ≡ read + 1) × (length s.left < length left)
-    go [] j e = let z : ◌≡◌ {A = ℕ} 0 1 = cc in absurd (omega arith)
+    go [] j e = cc
     go (l ∷ []) j e = absurd (last (ltb 1024 (length l)) l e)
-    go (l ∷ (next ∷ more)) j e = more_lines (ltb 1024 (length l)) l (joined_by 10 (next ∷ more)) (omega (arith, ap length j, length-append l (10 ∷ (next ++ led 10 more)))) e
+    go (l ∷ (next ∷ more)) j e = more_lines (ltb 1024 (length l)) l (joined_by 10 (next ∷ more)) (omega (arith, ap length j, length-append l (10 ∷ joined_by 10 (next ∷ more)))) e
 
 -- nothing handed out, nothing counted
 pub next_none : (read : ℕ) (left : List ℕ) → (line_next read left).answer ≡ Ok None → (line_next read left).read ≡ read
@@ -75,7 +75,7 @@ next_none read left e = go (cut_at 10 left) e
 
     more_lines : (t : Bool) (l rest : List ℕ) → let s = cond t (stay (Err (TooLong (read + 1))) read left) (record { answer = Ok (Some l); left = rest; read = read + 1 }) in s.answer ≡ Ok None → s.read ≡ read
     more_lines true l rest e = refl
-    more_lines false l rest e = let z : ◌≡◌ {A = ℕ} 0 1 = cc in absurd (omega arith)
+    more_lines false l rest e = cc
 
     go : (parts : List (List ℕ)) → let s = step_of read left parts in s.answer ≡ Ok None → s.read ≡ read
     go [] e = refl
@@ -113,19 +113,19 @@ lines_parts read (line ∷ parts) lines some e = go (ltb 1024 (length line)) ref
   where
     end : (l : List ℕ) → ending read l ≡ Ok lines → Ends (l ∷ []) lines
     end [] e = let same : [] ≡ lines = cc in subst (Ends ([] ∷ [])) same (refl, tt)
-    end (b ∷ l) e = let z : ◌≡◌ {A = ℕ} 0 1 = cc in absurd (omega arith)
+    end (b ∷ l) e = cc
 
     more_lines : (parts : List (List ℕ)) → length line ≤ 1024 → (r : Result (List (List ℕ)) TextFault) → ((ls : List (List ℕ)) → r ≡ Ok ls → Ends parts ls) → infront line r ≡ Ok lines → Ends (line ∷ parts) lines
     more_lines parts l (Ok ls) f e =
         let rest = f ls refl in
         let same : line ∷ ls ≡ lines = cc in
         subst (Ends (line ∷ parts)) same (ap (λ (ps : List (List ℕ)). line ∷ ps) rest.0, (l, rest.1))
-    more_lines parts l (Err fault) f e = let z : ◌≡◌ {A = ℕ} 0 1 = cc in absurd (omega arith)
+    more_lines parts l (Err fault) f e = cc
 
     go : (t : Bool) → ltb 1024 (length line) ≡ t → (ps : List (List ℕ))
         → ((ls : List (List ℕ)) → (ps ≡ [] → ⊥) → lines_in (read + 1) ps ≡ Ok ls → Ends ps ls)
         → cond t (Err (TooLong (read + 1))) (line_then read line ps (lines_in (read + 1) ps)) ≡ Ok lines → Ends (line ∷ ps) lines
-    go true h ps f e = let z : ◌≡◌ {A = ℕ} 0 1 = cc in absurd (omega arith)
+    go true h ps f e = cc
     go false h [] f e = end line e
     go false h (p ∷ ps) f e = more_lines (p ∷ ps) (ltb-false 1024 (length line) h) (lines_in (read + 1) (p ∷ ps)) (λ ls. f ls (λ n. (let z : ◌≡◌ {A = ℕ} (suc (length ps)) 0 = ap length n in omega arith))) e
 
@@ -139,13 +139,10 @@ parts_lines read (line ∷ lines) h = cond-false _ _ _ (le-ltb 1024 (length line
     go (l ∷ ls) = refl
 
 -- lines each followed by byte 10 are those parts joined
-led_ended : (lines : List (List ℕ)) → led 10 (lines ++ ([] ∷ [])) ≡ 10 ∷ ended lines
-led_ended [] = refl
-led_ended (line ∷ lines) = ap (λ (bs : List ℕ). 10 ∷ (line ++ bs)) (led_ended lines)
-
 joined_ended : (lines : List (List ℕ)) → joined_by 10 (lines ++ ([] ∷ [])) ≡ ended lines
 joined_ended [] = refl
-joined_ended (line ∷ lines) = ap (λ (bs : List ℕ). line ++ bs) (led_ended lines)
+joined_ended (line ∷ []) = refl
+joined_ended (line ∷ (next ∷ lines)) = ap (λ (bs : List ℕ). line ++ (10 ∷ bs)) (joined_ended (next ∷ lines))
 
 front : (P : List ℕ → Type 0) (lines : List (List ℕ)) (l : List ℕ) → AllByRecursion P (lines ++ (l ∷ [])) → AllByRecursion P lines
 front P [] l h = tt
@@ -166,7 +163,7 @@ lines_law sheet lines = (to, from)
     to e = go (ltb 65535 (length sheet)) refl e
       where
         go : (t : Bool) → ltb 65535 (length sheet) ≡ t → cond t (Err TooBig) (lines_in 0 (cut_at 10 sheet)) ≡ Ok lines → Lined sheet lines
-        go true h e = let z : ◌≡◌ {A = ℕ} 0 1 = cc in absurd (omega arith)
+        go true h e = cc
         go false h e =
             let s = cut_some 10 sheet in
             let p = lines_parts 0 (cut_at 10 sheet) lines (λ n. (let z : ◌≡◌ {A = ℕ} (suc (length s.1)) 0 = ap length (sym s.2 ∙ n) in omega arith)) e in

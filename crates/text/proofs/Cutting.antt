@@ -1,75 +1,57 @@
 -- Laws of cutting bytes at a byte.
-use Rattle.std.proofs.Common.{◌≡◌, ℕ, suc, ◌+◌, ◌<◌, ◌≤◌, Bool, true, false, cond, eqb, List, [], ◌∷◌, length, get_or, take, drop, sym, refl, ap, ◌∙◌, subst, arith}
-use Rattle.std.proofs.lemmas.List.{at_drop_more}
-use Rattle.std.proofs.lemmas.Bool.{cond-true, cond-false, eq-eqb, ne_eqb, eqb-true, eqb-false}
-use Rattle.std.specs.List.{AllByRecursion}
-use Rattle.text.specs.Parts.{before, grown, cut_at, led, joined_by, Lacks, Parted, PartsLaw}
+use Rattle.std.proofs.Common.{◌≡◌, ℕ, suc, ◌+◌, ◌<◌, ◌≤◌, Bool, true, false, cond, not, eqb, List, [], ◌∷◌, length, take, drop, unwrap_or, sym, refl, ap, ◌∙◌, subst, arith}
+use Rattle.std.proofs.lemmas.Bool.Decides.{nat_tests}
+use Rattle.std.proofs.lemmas.Bool.{cond-true, cond-false, eq-eqb, ne_eqb, eqb-false}
+use Rattle.std.proofs.lemmas.List.Elements.{All-from_get_or}
+use Rattle.std.proofs.lemmas.List.Folds.{length-prefix_len}
+use Rattle.std.proofs.lemmas.List.Splits.{slice_split_first, slice_split_none, length-slice_split, join_with_byte-slice_split}
+use Rattle.std.proofs.lemmas.List.Sums.{fails_before_first, prefix_len-le-length}
+use Rattle.std.specs.List.{AllByRecursion, onto_first, position, position_or_len, count_by}
+use Rattle.text.specs.Parts.{before, cut_at, joined_by, Lacks, Parted, PartsLaw}
 
--- one turn of the search for a mark
-module _ (mark : ℕ) (xs : List ℕ) (i : ℕ) (h : i < length xs) where
-  pub before_more : (get_or xs i 0 ≡ mark → ⊥) → length (before mark (drop i xs)) ≡ suc (length (before mark (drop (i + 1) xs)))
-  before_more ne = ap length (at_drop_more (before mark) xs i 0 h ∙ cond-false _ _ _ (ne_eqb _ mark ne))
-
-  pub before_stops : get_or xs i 0 ≡ mark → length (before mark (drop i xs)) ≡ 0
-  before_stops e = ap length (at_drop_more (before mark) xs i 0 h ∙ cond-true _ _ _ (eq-eqb _ mark e))
+-- where the first part ends
+pub length_before : (mark : ℕ) (bs : List ℕ) → length (before mark bs) ≡ position_or_len (λ b. eqb b mark) bs
+length_before mark bs = length-prefix_len _ bs
 
 pub before_le : (mark : ℕ) (bs : List ℕ) → length (before mark bs) ≤ length bs
-before_le mark [] = omega arith
-before_le mark (b ∷ bs) = go (eqb b mark) (before_le mark bs)
-  where
-    go : (t : Bool) → length (before mark bs) ≤ length bs → length (cond t [] (b ∷ before mark bs)) ≤ length (b ∷ bs)
-    go true h = omega arith
-    go false h = omega arith
+before_le mark bs = omega (arith, length_before mark bs, prefix_len-le-length (λ b. not (eqb b mark)) bs)
+
+-- the same as the place of the first mark, or all bytes where there is none
+pub position_before : (mark : ℕ) (bs : List ℕ) → unwrap_or (position (λ b. eqb b mark) bs) (length bs) ≡ length (before mark bs)
+position_before mark bs =
+    let e = length_before mark bs in
+    let h = before_le mark bs in
+    grind (arith, nat_tests)
 
 -- a cut has a first part
 pub cut_some : (mark : ℕ) (bs : List ℕ) → (p : List ℕ) × (ps : List (List ℕ)) × (cut_at mark bs ≡ p ∷ ps)
-cut_some mark [] = ([], [], refl)
-cut_some mark (b ∷ bs) = go (eqb b mark) (cut_at mark bs)
+cut_some mark bs = go (cut_at mark bs) (length-slice_split (λ b. eqb b mark) bs)
   where
-    go : (t : Bool) (ps : List (List ℕ)) → (q : List ℕ) × (qs : List (List ℕ)) × (cond t ([] ∷ ps) (grown b ps) ≡ q ∷ qs)
-    go true ps = ([], ps, refl)
-    go false [] = (b ∷ [], [], refl)
-    go false (p ∷ ps) = (b ∷ p, ps, refl)
+    go : (parts : List (List ℕ)) → length parts ≡ count_by (λ b. eqb b mark) bs + 1 → (p : List ℕ) × (ps : List (List ℕ)) × (parts ≡ p ∷ ps)
+    go [] e = absurd (omega arith)
+    go (p ∷ ps) e = (p, ps, refl)
 
--- the first part is what stands before the first mark
-pub cut_found : (mark : ℕ) (bs : List ℕ) → length (before mark bs) < length bs
-    → cut_at mark bs ≡ take (length (before mark bs)) bs ∷ cut_at mark (drop (suc (length (before mark bs))) bs)
-cut_found mark [] h = absurd (omega arith)
-cut_found mark (b ∷ bs) h = go (eqb b mark) h (cut_found mark bs)
-  where
-    go : (t : Bool) → length (cond t [] (b ∷ before mark bs)) < length (b ∷ bs)
-        → (length (before mark bs) < length bs → cut_at mark bs ≡ take (length (before mark bs)) bs ∷ cut_at mark (drop (suc (length (before mark bs))) bs))
-        → cond t ([] ∷ cut_at mark bs) (grown b (cut_at mark bs)) ≡ take (length (cond t [] (b ∷ before mark bs))) (b ∷ bs) ∷ cut_at mark (drop (suc (length (cond t [] (b ∷ before mark bs)))) (b ∷ bs))
-    go true l f = refl
-    go false l f = ap (grown b) (f (omega arith))
+-- a cut at n, where the first mark stands, or the end where there is none
+module _ (mark : ℕ) (bs : List ℕ) (n : ℕ) (is : n ≡ length (before mark bs)) where
+  place : position_or_len (λ b. eqb b mark) bs ≡ n
+  place = sym (is ∙ length_before mark bs)
 
--- bytes without a mark are one part
-pub cut_whole : (mark : ℕ) (bs : List ℕ) → length bs ≤ length (before mark bs) → cut_at mark bs ≡ bs ∷ []
-cut_whole mark [] h = refl
-cut_whole mark (b ∷ bs) h = go (eqb b mark) h (cut_whole mark bs)
-  where
-    go : (t : Bool) → length (b ∷ bs) ≤ length (cond t [] (b ∷ before mark bs)) → (length bs ≤ length (before mark bs) → cut_at mark bs ≡ bs ∷ []) → cond t ([] ∷ cut_at mark bs) (grown b (cut_at mark bs)) ≡ (b ∷ bs) ∷ []
-    go true l f = absurd (omega arith)
-    go false l f = ap (grown b) (f (omega arith))
+  -- the first part is what stands before the first mark
+  pub cut_found : n < length bs → cut_at mark bs ≡ take n bs ∷ cut_at mark (drop (n + 1) bs)
+  cut_found h = slice_split_first (λ b. eqb b mark) bs 0 (omega (arith, place)) ∙ ap (λ (m : ℕ). take m bs ∷ cut_at mark (drop (m + 1) bs)) place
+
+  -- bytes without a mark are one part
+  pub cut_whole : length bs ≤ n → cut_at mark bs ≡ bs ∷ []
+  cut_whole h =
+      let p : ℕ → Bool = λ b. eqb b mark in
+      slice_split_none p bs (All-from_get_or (λ b. p b ≡ false) bs 0 (λ i k. fails_before_first p bs i 0 (omega (arith, place))))
 
 -- the parts joined again are the bytes
-joined_grown : (mark b : ℕ) (ps : List (List ℕ)) → joined_by mark (grown b ps) ≡ b ∷ joined_by mark ps
-joined_grown mark b [] = refl
-joined_grown mark b (p ∷ ps) = refl
-
-led_joined : (mark : ℕ) (bs : List ℕ) → led mark (cut_at mark bs) ≡ mark ∷ joined_by mark (cut_at mark bs)
-led_joined mark bs = let s = cut_some mark bs in ap (led mark) s.2 ∙ sym (ap (λ (ps : List (List ℕ)). mark ∷ joined_by mark ps) s.2)
-
 pub cut_joined : (mark : ℕ) (bs : List ℕ) → joined_by mark (cut_at mark bs) ≡ bs
-cut_joined mark [] = refl
-cut_joined mark (b ∷ bs) = go (eqb b mark) refl ∙ ap (λ (xs : List ℕ). b ∷ xs) (cut_joined mark bs)
-  where
-    go : (t : Bool) → eqb b mark ≡ t → joined_by mark (cond t ([] ∷ cut_at mark bs) (grown b (cut_at mark bs))) ≡ b ∷ joined_by mark (cut_at mark bs)
-    go true e = led_joined mark bs ∙ ap (λ (m : ℕ). m ∷ joined_by mark (cut_at mark bs)) (sym (eqb-true b mark e))
-    go false e = joined_grown mark b (cut_at mark bs)
+cut_joined mark bs = join_with_byte-slice_split mark bs
 
 -- no part holds a mark
-grown_lacks : (mark b : ℕ) (ps : List (List ℕ)) → (b ≡ mark → ⊥) → AllByRecursion (Lacks mark) ps → AllByRecursion (Lacks mark) (grown b ps)
+grown_lacks : (mark b : ℕ) (ps : List (List ℕ)) → (b ≡ mark → ⊥) → AllByRecursion (Lacks mark) ps → AllByRecursion (Lacks mark) (onto_first b ps)
 grown_lacks mark b [] ne h = ((ne, tt), tt)
 grown_lacks mark b (p ∷ ps) ne h = ((ne, h.0), h.1)
 
@@ -77,7 +59,7 @@ pub cut_lacks : (mark : ℕ) (bs : List ℕ) → AllByRecursion (Lacks mark) (cu
 cut_lacks mark [] = (tt, tt)
 cut_lacks mark (b ∷ bs) = go (eqb b mark) refl (cut_lacks mark bs)
   where
-    go : (t : Bool) → eqb b mark ≡ t → AllByRecursion (Lacks mark) (cut_at mark bs) → AllByRecursion (Lacks mark) (cond t ([] ∷ cut_at mark bs) (grown b (cut_at mark bs)))
+    go : (t : Bool) → eqb b mark ≡ t → AllByRecursion (Lacks mark) (cut_at mark bs) → AllByRecursion (Lacks mark) (cond t ([] ∷ cut_at mark bs) (onto_first b (cut_at mark bs)))
     go true e h = (tt, h)
     go false e h = grown_lacks mark b (cut_at mark bs) (eqb-false b mark e) h
 
@@ -85,7 +67,8 @@ cut_lacks mark (b ∷ bs) = go (eqb b mark) refl (cut_lacks mark bs)
 pub joined_cut : (mark : ℕ) (p : List ℕ) (ps : List (List ℕ)) → Lacks mark p → AllByRecursion (Lacks mark) ps → cut_at mark (joined_by mark (p ∷ ps)) ≡ p ∷ ps
 joined_cut mark [] [] l ls = refl
 joined_cut mark [] (q ∷ qs) l ls = cond-true _ _ _ (eq-eqb mark mark refl) ∙ ap (λ (xs : List (List ℕ)). [] ∷ xs) (joined_cut mark q qs ls.0 ls.1)
-joined_cut mark (b ∷ p) ps l ls = cond-false _ _ _ (ne_eqb b mark l.0) ∙ ap (grown b) (joined_cut mark p ps l.1 ls)
+joined_cut mark (b ∷ p) [] l ls = cond-false _ _ _ (ne_eqb b mark l.0) ∙ ap (onto_first b) (joined_cut mark p [] l.1 tt)
+joined_cut mark (b ∷ p) (q ∷ qs) l ls = cond-false _ _ _ (ne_eqb b mark l.0) ∙ ap (onto_first b) (joined_cut mark p (q ∷ qs) l.1 ls)
 
 pub parts_law : (mark : ℕ) (bytes : List ℕ) → PartsLaw mark bytes
 parts_law mark bytes parts = (to, from)

@@ -1,15 +1,12 @@
 -- Digits, their value, and how a number is spelled.
-use Rattle.std.proofs.Common.{◌≡◌, ℕ, zero, suc, ◌+◌, ◌-◌, ◌*◌, ◌^◌, ◌<◌, ◌≤◌, Bool, true, false, cond, not, ◌&&◌, ◌||◌, eqb, leb, List, [], ◌∷◌, length, get_or, drop, ℤ, pos, negsuc, ◌-ℤ◌, Some, None, decimal, Option, sym, refl, ap, ◌∙◌, subst, ⊎_elim, mul_assoc, mul_comm, add-mul, pow-suc, add-one, arith, w64, to_z, of_z, rules}
+use Rattle.std.proofs.Common.{◌≡◌, ℕ, zero, suc, ◌+◌, ◌-◌, ◌*◌, ◌^◌, ◌<◌, ◌≤◌, Bool, true, false, cond, not, ◌&&◌, ◌||◌, eqb, leb, List, [], ◌∷◌, length, get_or, drop, ℤ, pos, negsuc, Some, None, decimal, Option, sym, refl, ap, ◌∙◌, subst, ⊎_elim, mul_assoc, mul_comm, add-mul, pow-suc, add-one, arith, rules}
 use native.Mathlib.Nat.{pow-le-pow_right}
-use Rattle.std.proofs.lemmas.Int.{ints}
 use Rattle.std.proofs.lemmas.List.{at_drop_more}
-use Rattle.std.proofs.lemmas.Bool.{cond-true, cond-false, eq-eqb, ne_eqb, le-leb, lt-leb, eqb-true, leb-true, and_parts, and_from, and_left, or_cases, cond_both}
-use Rattle.std.proofs.lemmas.Slice.{first_rest}
+use Rattle.std.proofs.lemmas.Bool.{cond-true, eq-eqb, le-leb, lt-leb, eqb-true, leb-true, and_parts, and_from, and_left, or_cases, cond_both}
 use Rattle.std.proofs.lemmas.Str.Parse.{IsNumeralModel, numerals_by_weight, digits_value_short}
 use Rattle.std.proofs.lemmas.Fmt.{decimal_digit, decimal-digits_value, digits_decimal, digits_value-decimal, decimal_nonempty, first_decimal, length-decimal-le}
-use Rattle.std.specs.List.{between}
 use Rattle.std.specs.Fmt.{signed_decimal}
-use Rattle.text.specs.Numbers.{is_digit, digit_of, all_digits, decimal_value, digits_value, plain_size, unsigned_of, negated, unnegated, negative_of, positive_of, number_of, Short, NumberLaw}
+use Rattle.text.specs.Numbers.{is_digit, digit_of, all_digits, decimal_value, plain_size, unsigned_of, negated, unnegated, negative_of, positive_of, number_of, Short, NumberLaw}
 
 -- the value of digits that follow digits of value n
 abbrev pub value_after : ℕ → List ℕ → Option ℕ
@@ -32,23 +29,7 @@ digit_some b n e = go (is_digit b) refl e
   where
     go : (t : Bool) → is_digit b ≡ t → cond t (Some (b - 48)) None ≡ Some n → (t ≡ true) × (n ≡ b - 48) × (n < 10)
     go true d e = let same : n ≡ b - 48 = cc in (refl, same, omega (arith, leb-true b 57 (and_parts (leb 48 b) (leb b 57) d).1))
-    go false d e = let z : ◌≡◌ {A = ℕ} 0 1 = cc in absurd (omega arith)
-
-pub digit_none : (b : ℕ) → digit_of b ≡ None → is_digit b ≡ false
-digit_none b e = go (is_digit b) e
-  where
-    go : (t : Bool) → cond t (Some (b - 48)) None ≡ None → t ≡ false
-    go true e = let z : ◌≡◌ {A = ℕ} 0 1 = cc in absurd (omega arith)
-    go false e = refl
-
--- digits after the first
-pub value_first : (d n : ℕ) (ds : List ℕ) → digit_of d ≡ Some n → value_after n ds ≡ digits_value (d ∷ ds)
-value_first d n ds e =
-    let p = digit_some d n e in
-    ap (λ (m : ℕ). value_after m ds) p.1 ∙ ap (λ (t : Bool). cond (t && all_digits ds) (Some ((d - 48) * 10 ^ length ds + decimal_value ds)) None) (sym p.0)
-
-pub value_none : (d : ℕ) (ds : List ℕ) → digit_of d ≡ None → None ≡ digits_value (d ∷ ds)
-value_none d ds e = sym (cond-false _ _ _ (and_left (is_digit d) (all_digits ds) (digit_none d e)))
+    go false d e = cc
 
 module _ (xs : List ℕ) (i : ℕ) (h : i < length xs) (n : ℕ) where
   turn : value_after n (drop i xs) ≡ value_after n (get_or xs i 0 ∷ drop (i + 1) xs)
@@ -64,13 +45,6 @@ module _ (xs : List ℕ) (i : ℕ) (h : i < length xs) (n : ℕ) where
       ∙ ap (λ (v : ℕ). cond (all_digits ds) (Some v) None) (sym (more_value n (d - 48) (decimal_value ds) (length ds)))
       ∙ ap (λ (m : ℕ). value_after (n * 10 + m) ds) (sym p.1)
 
-  -- a byte that is no digit
-  pub value_stops : digit_of (get_or xs i 0) ≡ None → value_after n (drop i xs) ≡ None
-  value_stops e = turn ∙ cond-false _ _ _ (and_left (is_digit (get_or xs i 0)) (all_digits (drop (i + 1) xs)) (digit_none (get_or xs i 0) e))
-
-pub value_end : (n : ℕ) → value_after n [] ≡ Some n
-value_end n = ap Some (omega arith)
-
 -- i digits hold a number below 10 ^ i
 pub pow_more : (i : ℕ) → 10 ^ (i + 1) ≡ 10 ^ i * 10
 pow_more i = rw add-one (pow-suc 10 i)
@@ -78,34 +52,19 @@ pow_more i = rw add-one (pow-suc 10 i)
 pub pow_below : (i k : ℕ) → i ≤ k → 10 ^ i ≤ 10 ^ k
 pow_below i k h = pow-le-pow_right (omega arith) h
 
--- a small number as a signed word, and its negation
-pub word : (n : ℕ) → n < 10 ^ 13 → ◌≡◌ {A = Option ℤ} (Some (to_z w64 n)) (unnegated (Some n))
-word n h = ap Some (omega (arith, ints))
-
-pub negative_word : (n : ℕ) → n < 10 ^ 13 → (n ≡ 0 → ⊥) → ◌≡◌ {A = Option ℤ} (Some (to_z w64 (of_z w64 (pos 0 -ℤ to_z w64 n)))) (negated (Some n))
-negative_word zero h ne = absurd (ne refl)
-negative_word (suc n) h ne = ap Some (omega (arith, ints))
-
--- a field by its first byte and the rest, as `[first, rest @ ..]` takes them
-pub by_minus : (xs : List ℕ) → 0 < length xs → get_or xs 0 0 ≡ 45 → number_of xs ≡ negative_of (between 1 (length xs) xs)
-by_minus xs h e = ap number_of (first_rest xs 0 h) ∙ cond-true _ _ _ (eq-eqb (get_or xs 0 0) 45 e)
-
-pub by_digits : (xs : List ℕ) → 0 < length xs → (get_or xs 0 0 ≡ 45 → ⊥) → number_of xs ≡ positive_of (get_or xs 0 0 ∷ between 1 (length xs) xs)
-by_digits xs h ne = ap number_of (first_rest xs 0 h) ∙ cond-false _ _ _ (ne_eqb (get_or xs 0 0) 45 ne)
-
 -- the digits of an unsigned number are those that printing it writes
 abbrev pub Prints : List ℕ → ℕ → Type 0
 Prints ds n = (ds ≡ decimal n) × (n < 10 ^ 13)
 
 plain_parts : (ds : List ℕ) → plain_size ds ≡ true → (0 < length ds) × (length ds ≤ 13) × (get_or ds 0 0 ≡ 48 → length ds ≡ 1)
-plain_parts [] e = absurd (let z : ◌≡◌ {A = ℕ} 0 1 = cc in omega arith)
+plain_parts [] e = cc
 plain_parts (d ∷ ds) e =
     let p = and_parts (leb (length ds) 12) (not (eqb d 48) || eqb (length ds) 0) e in
     let short : length ds ≤ 12 = leb-true (length ds) 12 p.0 in
     (omega arith, omega arith, λ z. ⊎_elim (λ t. absurd (lead z t)) (λ t. (let e : length ds ≡ 0 = eqb-true (length ds) 0 t in omega arith)) (or_cases (not (eqb d 48)) (eqb (length ds) 0) p.1))
   where
     lead : d ≡ 48 → not (eqb d 48) ≡ true → ⊥
-    lead z t = let u : not (eqb d 48) ≡ false = ap not (eq-eqb d 48 z) in (let z : ◌≡◌ {A = ℕ} 0 1 = cc in omega arith)
+    lead z t = let u : not (eqb d 48) ≡ false = ap not (eq-eqb d 48 z) in cc
 
 plain_from : (ds : List ℕ) → 0 < length ds → length ds ≤ 13 → (get_or ds 0 0 ≡ 48 → length ds ≡ 1) → plain_size ds ≡ true
 plain_from [] some short first = absurd (omega arith)
@@ -119,8 +78,8 @@ unsigned_prints : (ds : List ℕ) (n : ℕ) → unsigned_of ds ≡ Some n → Pr
 unsigned_prints ds n e = go (plain_size ds) refl (all_digits ds) refl e
   where
     go : (t : Bool) → plain_size ds ≡ t → (u : Bool) → all_digits ds ≡ u → cond t (cond u (Some (decimal_value ds)) None) None ≡ Some n → Prints ds n
-    go false p u a e = let z : ◌≡◌ {A = ℕ} 0 1 = cc in absurd (omega arith)
-    go true p false a e = let z : ◌≡◌ {A = ℕ} 0 1 = cc in absurd (omega arith)
+    go false p u a e = cc
+    go true p false a e = cc
     go true p true a e =
         let parts = plain_parts ds p in
         let same : decimal_value ds ≡ n = cc in
@@ -140,7 +99,7 @@ prints_unsigned ds n h =
 
 -- digits have no minus sign in front
 digits_number : (ds : List ℕ) (n : ℕ) → unsigned_of ds ≡ Some n → number_of ds ≡ Some (pos n)
-digits_number [] n e = let z : ◌≡◌ {A = ℕ} 0 1 = cc in absurd (omega arith)
+digits_number [] n e = cc
 digits_number (d ∷ ds) n e = go (eqb d 45) refl
   where
     minus : d ≡ 45 → unsigned_of (d ∷ ds) ≡ None
@@ -149,28 +108,28 @@ digits_number (d ∷ ds) n e = go (eqb d 45) refl
         ap (λ (t : Bool). cond (plain_size (d ∷ ds)) (cond (t && all_digits ds) (Some (decimal_value (d ∷ ds))) None) None) low ∙ cond_both (plain_size (d ∷ ds)) None None (λ (o : Option ℕ). o ≡ None) (λ t. refl) (λ t. refl)
 
     go : (t : Bool) → eqb d 45 ≡ t → cond t (negative_of ds) (positive_of (d ∷ ds)) ≡ Some (pos n)
-    go true m = let f = minus (eqb-true d 45 m) in (let z : ◌≡◌ {A = ℕ} 0 1 = cc in absurd (omega arith))
+    go true m = let f = minus (eqb-true d 45 m) in cc
     go false m = ap unnegated e
 
 pub number_law : (field : List ℕ) → NumberLaw field
 number_law field z = (to field, from z)
   where
     negative : (bs : List ℕ) (r : Option ℕ) → unsigned_of bs ≡ r → negated r ≡ Some z → (45 ∷ bs ≡ signed_decimal z) × Short z
-    negative bs None u e = let z : ◌≡◌ {A = ℕ} 0 1 = cc in absurd (omega arith)
-    negative bs (Some zero) u e = let z : ◌≡◌ {A = ℕ} 0 1 = cc in absurd (omega arith)
+    negative bs None u e = cc
+    negative bs (Some zero) u e = cc
     negative bs (Some (suc n)) u e =
         let p = unsigned_prints bs (suc n) u in
         let same : negsuc n ≡ z = cc in
         subst (λ (y : ℤ). (45 ∷ bs ≡ signed_decimal y) × Short y) same (ap (λ (ds : List ℕ). 45 ∷ ds) p.0, p.1)
 
     positive : (bs : List ℕ) (r : Option ℕ) → unsigned_of bs ≡ r → unnegated r ≡ Some z → (bs ≡ signed_decimal z) × Short z
-    positive bs None u e = let z : ◌≡◌ {A = ℕ} 0 1 = cc in absurd (omega arith)
+    positive bs None u e = cc
     positive bs (Some n) u e =
         let same : pos n ≡ z = cc in
         subst (λ (y : ℤ). (bs ≡ signed_decimal y) × Short y) same (unsigned_prints bs n u)
 
     to : (bs : List ℕ) → number_of bs ≡ Some z → (bs ≡ signed_decimal z) × Short z
-    to [] e = let z : ◌≡◌ {A = ℕ} 0 1 = cc in absurd (omega arith)
+    to [] e = cc
     to (b ∷ bs) e = go (eqb b 45) refl e
       where
         go : (t : Bool) → eqb b 45 ≡ t → cond t (negative_of bs) (positive_of (b ∷ bs)) ≡ Some z → (b ∷ bs ≡ signed_decimal z) × Short z

@@ -1,6 +1,5 @@
 -- The four ways of one call of the line reader.
-use Rattle.std.proofs.Common.{◌≡◌, ℕ, ◌+◌, ◌-◌, ◌<◌, ◌≤◌, cond, ltb, List, [], ◌∷◌, length, take, drop, Some, None, Ok, Err, sym, refl, ap, ◌∙◌, ⊎_elim, add-one, arith}
-use native.Mathlib.Nat.{sub-zero}
+use Rattle.std.proofs.Common.{◌≡◌, ℕ, ◌+◌, ◌-◌, ◌<◌, ◌≤◌, cond, ltb, List, [], ◌∷◌, length, take, drop, Some, None, Ok, Err, sym, refl, ap, ◌∙◌, ⊎_elim, arith}
 use Rattle.std.proofs.lemmas.List.{take_rest, drop-drop, length-take-le, nil_from_length}
 use Rattle.std.proofs.lemmas.Bool.{cond-true, cond-false, lt-ltb, le-ltb, cases_lt}
 use Rattle.text.specs.declared.fault.TextFault.TheVariants.{Unended, TooLong}
@@ -25,12 +24,11 @@ module _ (read : ℕ) (bs : List ℕ) where
   module _ (n : ℕ) (is : n ≡ length (before 10 bs)) where
     found : n < length bs → line_next read bs ≡ cond (ltb 1024 n) (stay (Err (TooLong (read + 1))) read bs) (record { answer = Ok (Some (take n bs)); left = drop (n + 1) bs; read = read + 1 })
     found h =
-        let e : cut_at 10 bs ≡ take n bs ∷ cut_at 10 (drop (n + 1) bs) = rw add-one (rw is (cut_found 10 bs (rw is at h))) in
-        ap (step_of read bs) e ∙ step_found (take n bs) (drop (n + 1) bs)
+        ap (step_of read bs) (cut_found 10 bs n is h) ∙ step_found (take n bs) (drop (n + 1) bs)
         ∙ ap (λ (m : ℕ). cond (ltb 1024 m) (stay (Err (TooLong (read + 1))) read bs) (record { answer = Ok (Some (take n bs)); left = drop (n + 1) bs; read = read + 1 })) (length-take-le n bs (omega arith))
 
     whole : length bs ≤ n → (length bs ≡ 0 → ⊥) → line_next read bs ≡ cond (ltb 1024 (length bs)) (stay (Err (TooLong (read + 1))) read bs) (stay (Err (Unended (read + 1))) read bs)
-    whole h some = ap (step_of read bs) (cut_whole 10 bs (rw is at h)) ∙ ap (cond (ltb 1024 (length bs)) (stay (Err (TooLong (read + 1))) read bs)) (lacks_end bs some)
+    whole h some = ap (step_of read bs) (cut_whole 10 bs n is h) ∙ ap (cond (ltb 1024 (length bs)) (stay (Err (TooLong (read + 1))) read bs)) (lacks_end bs some)
 
     too_long : 1024 < n → stay (Err (TooLong (read + 1))) read bs ≡ line_next read bs
     too_long h = ⊎_elim (λ l. sym (found l ∙ cond-true _ _ _ (lt-ltb 1024 n h))) (λ l. sym (whole l (λ z. omega (arith, before_le 10 bs)) ∙ cond-true _ _ _ (lt-ltb 1024 (length bs) (omega (arith, before_le 10 bs))))) (cases_lt n (length bs))
@@ -62,8 +60,8 @@ module _ (read : ℕ) (sheet : List ℕ) (offset : ℕ) where
     pub reads_unended : n ≤ 1024 → length rest ≤ n → stay (Err (Unended (read + 1))) read (drop offset sheet) ≡ line_next read (drop offset sheet)
     reads_unended h l = unended read (drop offset sheet) n there h (rw rest_is at l) (rw rest_is at some)
 
-    pub reads_line : n ≤ 1024 → n < length rest → record { answer = Ok (Some (take (n - 0) rest)); left = drop (offset + (n + 1)) sheet; read = read + 1 } ≡ line_next read (drop offset sheet)
+    pub reads_line : n ≤ 1024 → n < length rest → record { answer = Ok (Some (take n rest)); left = drop (offset + (n + 1)) sheet; read = read + 1 } ≡ line_next read (drop offset sheet)
     reads_line h l =
-        ap (λ (line : List ℕ). record { answer = Ok (Some line); left = drop (offset + (n + 1)) sheet; read = read + 1 }) (ap (λ (m : ℕ). take m rest) (sub-zero n) ∙ ap (take n) rest_is)
+        ap (λ (line : List ℕ). record { answer = Ok (Some line); left = drop (offset + (n + 1)) sheet; read = read + 1 }) (ap (take n) rest_is)
         ∙ ap (λ (more : List ℕ). record { answer = Ok (Some (take n (drop offset sheet))); left = more; read = read + 1 }) (sym (drop-drop (n + 1) offset sheet))
         ∙ ended read (drop offset sheet) n there h (rw rest_is at l)

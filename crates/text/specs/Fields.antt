@@ -17,16 +17,7 @@ fields_in (Some rest) = fields_of rest.now
 abbrev pub fields_left : Fields → List (List ℕ)
 fields_left reader = fields_in reader.rest
 
--- the first of some fields, and those behind it
-abbrev pub first : List (List ℕ) → Option (List ℕ)
-first [] = None
-first (field ∷ fields) = Some field
-
+-- the fields behind the first
 abbrev pub others : List (List ℕ) → List (List ℕ)
 others [] = []
 others (field ∷ fields) = fields
-
--- an answer by its bytes
-abbrev pub shown_field : Option (Bor (List ℕ)) → Option (List ℕ)
-shown_field None = None
-shown_field (Some field) = Some field.now

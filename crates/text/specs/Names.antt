@@ -1,14 +1,15 @@
 -- Names.
-use Rattle.std.specs.Prelude.{ℕ, Bool, true, false, cond, not, ◌&&◌, List, [], ◌∷◌, length, Ok, Err, Result, ◌==◌, nat_le}
+use Rattle.std.specs.Prelude.{ℕ, Bool, cond, not, ◌&&◌, List, length, Ok, Err, Result, ◌==◌, nat_le}
 use Rattle.std.specs.Borrow.{Bor}
+use Rattle.std.specs.List.{list_all}
+use Rattle.std.specs.Str.{bytes_eq}
 use Rattle.text.specs.declared.fault.At.{At}
 use Rattle.text.specs.declared.fault.FieldFault.{FieldFault}
 use Rattle.text.specs.declared.fault.FieldFault.TheVariants.{Malformed}
 
 -- no byte is below 32, and none is 127
 abbrev pub plain_bytes : List ℕ → Bool
-plain_bytes [] = true
-plain_bytes (b ∷ bs) = nat_le 32 b && (not (b == 127) && plain_bytes bs)
+plain_bytes bytes = list_all (λ b. nat_le 32 b && not (b == 127)) bytes
 
 -- 1 to 24 such bytes
 abbrev pub name_test : List ℕ → Bool
@@ -25,7 +26,4 @@ shown_name (Err fault) = Err fault
 
 -- two names are the same if their bytes agree
 abbrev pub same_name : List ℕ → List ℕ → Bool
-same_name [] [] = true
-same_name [] (c ∷ cs) = false
-same_name (b ∷ bs) [] = false
-same_name (b ∷ bs) (c ∷ cs) = b == c && same_name bs cs
+same_name a b = bytes_eq a b

@@ -1,6 +1,7 @@
 -- Numbers as a sheet spells them.
-use Rattle.std.specs.Prelude.{◌≡◌, ℕ, zero, suc, ◌+◌, ◌-◌, ◌*◌, ◌^◌, ◌<◌, Bool, true, false, cond, not, ◌&&◌, ◌||◌, ◌↔◌, List, [], ◌∷◌, length, ℤ, pos, negsuc, Some, None, Ok, Err, Option, Result, ◌==◌, int_le, nat_le}
+use Rattle.std.specs.Prelude.{◌≡◌, ℕ, zero, suc, ◌+◌, ◌-◌, ◌*◌, ◌^◌, ◌<◌, Bool, false, cond, not, ◌&&◌, ◌||◌, ◌↔◌, List, [], ◌∷◌, length, ℤ, pos, negsuc, Some, None, Ok, Err, Option, Result, ◌==◌, int_le, nat_le}
 use Rattle.std.specs.Fmt.{signed_decimal}
+use Rattle.std.specs.List.{list_all}
 use Rattle.text.specs.declared.fault.At.{At}
 use Rattle.text.specs.declared.fault.FieldFault.{FieldFault}
 use Rattle.text.specs.declared.fault.FieldFault.TheVariants.{Malformed, OutOfRange}
@@ -15,8 +16,7 @@ digit_of d = cond (is_digit d) (Some (d - 48)) None
 
 -- every byte is a digit
 abbrev pub all_digits : List ℕ → Bool
-all_digits [] = true
-all_digits (d ∷ ds) = is_digit d && all_digits ds
+all_digits ds = list_all is_digit ds
 
 -- the decimal value: each digit counts as often as the power of ten of its place says
 abbrev pub decimal_value : List ℕ → ℕ

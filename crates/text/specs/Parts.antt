@@ -1,31 +1,18 @@
 -- Bytes cut into parts at a byte.
-use Rattle.std.specs.Prelude.{◌≡◌, ℕ, cond, ◌↔◌, List, [], ◌∷◌, ◌++◌, ◌==◌, ◌≢◌}
-use Rattle.std.specs.List.{AllByRecursion}
+use Rattle.std.specs.Prelude.{◌≡◌, ℕ, ◌↔◌, List, [], ◌==◌, ◌≢◌}
+use Rattle.std.specs.List.{AllByRecursion, before_first, slice_split, join_with_byte}
 
 -- the bytes before the first byte `mark`; all of them where there is none
 abbrev pub before : ℕ → List ℕ → List ℕ
-before mark [] = []
-before mark (b ∷ bs) = cond (b == mark) [] (b ∷ before mark bs)
-
--- a byte put in front of the first part
-abbrev pub grown : ℕ → List (List ℕ) → List (List ℕ)
-grown b [] = (b ∷ []) ∷ []
-grown b (part ∷ parts) = (b ∷ part) ∷ parts
+before mark bytes = before_first (λ b. b == mark) bytes
 
 -- the parts between the bytes `mark`, first to last: always one more than there are bytes `mark`
 abbrev pub cut_at : ℕ → List ℕ → List (List ℕ)
-cut_at mark [] = [] ∷ []
-cut_at mark (b ∷ bs) = cond (b == mark) ([] ∷ cut_at mark bs) (grown b (cut_at mark bs))
-
--- each part with a byte `mark` in front of it
-abbrev pub led : ℕ → List (List ℕ) → List ℕ
-led mark [] = []
-led mark (part ∷ parts) = mark ∷ (part ++ led mark parts)
+cut_at mark bytes = slice_split (λ b. b == mark) bytes
 
 -- the parts with a byte `mark` between each two
 abbrev pub joined_by : ℕ → List (List ℕ) → List ℕ
-joined_by mark [] = []
-joined_by mark (part ∷ parts) = part ++ led mark parts
+joined_by mark parts = join_with_byte mark parts
 
 -- no byte of the part is `mark`
 abbrev pub Lacks : ℕ → List ℕ → Type 0

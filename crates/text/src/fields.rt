@@ -1,7 +1,8 @@
 // The fields of a line: its parts between tabs.
 ghost use Rattle.std.specs.Prelude.{◌≡◌, ◌-◌, ◌^◌, min, length};
+ghost use Rattle.std.specs.Iterator.{YieldsFirstRef, item_count};
 ghost use Rattle.text.specs.Parts.{PartsLaw};
-ghost use Rattle.text.specs.Fields.{fields_of, fields_left, first, others, shown_field};
+ghost use Rattle.text.specs.Fields.{fields_of, fields_left};
 
 use crate::part::length_before;
 
@@ -21,22 +22,21 @@ impl<'l> Fields<'l> {
     {
         Fields { rest: Some(line) }
     }
+}
 
-    // The next field; nothing after the last.
-    pub fn next(&mut self) -> Option<&'l [u8]>
-        ensures answer { shown_field result ≡ first (fields_left self.old) }
-        ensures left { fields_left self.new ≡ others (fields_left self.old) }
-    {
-        let Some(rest) = self.rest else {
-            return None;
-        };
-        let n = length_before(TAB, rest);
-        let [_, after @ ..] = &rest[n..] else {
-            self.rest = None;
-            return Some(rest);
-        };
-        self.rest = Some(after);
-        Some(&rest[0..n])
+impl<'l> Iterator for Fields<'l> {
+    type Item = &'l [u8];
+
+    // each call hands out the first of the fields left; after the last there is nothing, and nothing is left
+    ghost next_gives = { YieldsFirstRef fields_left };
+
+    ghost remaining = { item_count fields_left };
+
+    fn next(&mut self) -> Option<&'l [u8]> {
+        let rest = self.rest?;
+        let (field, behind) = rest.split_at(length_before(TAB, rest));
+        self.rest = behind.get(1..);
+        Some(field)
     }
 }
 
@@ -44,11 +44,6 @@ impl<'l> Fields<'l> {
 pub fn field_count(line: &[u8]) -> usize
     ensures { result ≡ min (length (fields_of line.now)) (2 ^ 64 - 1) }
 {
-    let mut tabs = 0usize;
-    for b in line {
-        if *b == TAB {
-            tabs += 1;
-        }
-    }
+    let tabs = line.iter().filter(|b| **b == TAB).count();
     tabs.saturating_add(1)
 }

@@ -11,7 +11,7 @@ pub mod part;
 #[cfg(test)]
 mod tests;
 
-pub use fault::{At, FieldFault, TextFault};
+pub use fault::{At, Fault, FieldFault, TextFault, Told};
 pub use fields::{Fields, field_count};
 pub use lines::Lines;
 pub use lines::walk::{check_size, line_count};

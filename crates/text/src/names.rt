@@ -10,15 +10,7 @@ const NAME_BYTES: usize = 24;
 fn is_name(field: &[u8]) -> bool
     ensures { result ≡ name_test field.now }
 {
-    if field.len() < 1 || field.len() > NAME_BYTES {
-        return false;
-    }
-    for b in field {
-        if *b < 32 || *b == 127 {
-            return false;
-        }
-    }
-    true
+    (1..=NAME_BYTES).contains(&field.len()) && field.iter().all(|b| !b.is_ascii_control())
 }
 
 // The field as a name, or fault 4.

@@ -10,10 +10,7 @@ const MOST_DIGITS: usize = 13;
 fn digit(byte: u8) -> Option<u64>
     ensures { result ≡ digit_of byte }
 {
-    match byte {
-        b'0'..=b'9' => Some((byte - b'0') as u64),
-        _ => None,
-    }
+    char::from(byte).to_digit(10).map(u64::from)
 }
 
 // The value of a first digit and at most 12 more; nothing where a byte is no digit.
@@ -34,10 +31,7 @@ fn unsigned(first: u8, rest: &[u8]) -> Option<u64>
     ensures value { result ≡ unsigned_of (first ∷ rest.now) }
     ensures small { IfSome result (λ n. n < 10 ^ 13) }
 {
-    if first == b'0' && rest.len() > 0 {
-        return None;
-    }
-    if rest.len() >= MOST_DIGITS {
+    if (first == b'0' && !rest.is_empty()) || rest.len() >= MOST_DIGITS {
         return None;
     }
     value(first, rest)
@@ -50,19 +44,17 @@ fn negative(digits: &[u8]) -> Option<i64>
     let [first, rest @ ..] = digits else {
         return None;
     };
-    let n = unsigned(*first, rest)?;
-    if n == 0 {
-        return None;
+    match unsigned(*first, rest)? {
+        0 => None,
+        n => Some(-(n as i64)),
     }
-    Some(-(n as i64))
 }
 
 // The number that has digits alone.
 fn positive(first: u8, rest: &[u8]) -> Option<i64>
     ensures { result ≡ positive_of (first ∷ rest.now) }
 {
-    let n = unsigned(first, rest)?;
-    Some(n as i64)
+    unsigned(first, rest).map(|n| n as i64)
 }
 
 // The number that a field spells, if it spells one.
@@ -81,11 +73,10 @@ pub fn number(field: &[u8]) -> Option<i64>
 pub fn number_within(field: &[u8], low: i64, high: i64, at: At) -> Result<i64, FieldFault>
     ensures { result ≡ number_in low high at field.now }
 {
-    let Some(n) = number(field) else {
-        return Err(FieldFault::Malformed(at));
-    };
-    if n < low || n > high {
-        return Err(FieldFault::OutOfRange(at));
+    let n = number(field).ok_or(FieldFault::Malformed(at))?;
+    if (low..=high).contains(&n) {
+        Ok(n)
+    } else {
+        Err(FieldFault::OutOfRange(at))
     }
-    Ok(n)
 }

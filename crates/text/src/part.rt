@@ -7,10 +7,5 @@ pub fn length_before(mark: u8, bytes: &[u8]) -> usize
     ensures value { result ≡ length (before mark bytes.now) }
     ensures within { result ≤ length bytes.now }
 {
-    for (i, b) in bytes.iter().enumerate() {
-        if *b == mark {
-            return i;
-        }
-    }
-    bytes.len()
+    bytes.iter().position(|b| *b == mark).unwrap_or(bytes.len())
 }

@@ -1,5 +1,6 @@
 // The edges of each layer.
 use crate::*;
+use std::test::Fail;
 
 const HERE: At = At { line: 7, field: 2 };
 
@@ -68,10 +69,7 @@ fn spellings(rt: HostRuntime) {
 }
 
 fn is_a_name(bytes: &[u8]) -> bool {
-    match name(bytes, HERE) {
-        Ok(_) => true,
-        Err(_) => false,
-    }
+    name(bytes, HERE).is_ok()
 }
 
 #[test]
@@ -93,4 +91,11 @@ fn faults_are_told(rt: HostRuntime) {
     assert_eq!(rt; (fault.number(), fault.line(), fault.field()), (3, 9, 0));
     let fault = FieldFault::OutOfRange(HERE);
     assert_eq!(rt; (fault.number(), fault.line(), fault.field()), (5, 7, 2));
+}
+
+#[test]
+fn told_text(rt: HostRuntime) -> Result<(), Fail> {
+    let told = FieldFault::OutOfRange(HERE).told();
+    assert_eq!(rt; told.to_string(rt.alloc())?.as_str(), "5\t7\t2");
+    Ok(())
 }

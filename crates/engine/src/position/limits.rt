@@ -4,6 +4,7 @@ ghost use Rattle.engine.specs.Lent.{lent, limit_checked, LimitCall};
 
 use super::Position;
 use super::settling::{attempt, prepare};
+use crate::counts::Counts;
 use crate::refusal::Refusal;
 use crate::sweep::Strikes;
 use books::{Book, Place};
@@ -20,28 +21,18 @@ fn check_limit<B: Book>(
 ) -> Result<(), Refusal>
     ensures { result ≡ limit_checked position.now (B.Book.meaning book.now) place board.now working.now waiting.now }
 {
-    if board.len() < position.places as usize {
-        return Err(Refusal::TooShort);
-    }
-    if working.len() < position.places as usize {
-        return Err(Refusal::TooShort);
-    }
-    if waiting.len() < position.rules as usize {
-        return Err(Refusal::TooShort);
-    }
-    if book.places() != position.places {
+    position.counts.check_memory(board, working, waiting)?;
+    if Counts::of(book) != position.counts {
         return Err(Refusal::OtherBook);
     }
-    if book.rules() != position.rules {
-        return Err(Refusal::OtherBook);
-    }
-    if place >= position.places {
+    if place >= position.counts.places {
         return Err(Refusal::NoSuchPlace { place });
     }
     Ok(())
 }
 
 // Cuts the place to its common part with the span, settles the board, and returns the strikes; the cut is none of them.
+#[tactic(auto, using(crate::proofs::Limiting::checked_lengths))]
 pub fn limit<B: Book>(
     position: &Position,
     book: &B,
@@ -55,7 +46,11 @@ pub fn limit<B: Book>(
 {
     book.lawful();
     check_limit(position, book, board, working, waiting, place)?;
-    prepare(board, working, waiting, position.places, position.rules)?;
+    let places = position.counts.places as usize;
+    let board = &mut board[0..places];
+    let working = &mut working[0..places];
+    let waiting = &mut waiting[0..position.counts.rules as usize];
+    prepare(board, working, waiting)?;
     let cut = board[place as usize].common(span);
     if cut.is_empty() {
         return Err(Refusal::NothingShared { place });

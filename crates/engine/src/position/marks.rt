@@ -9,19 +9,16 @@ use spans::Span;
 
 // How many spans the boards of the standing marks take.
 fn kept_spans(position: &Position) -> u128
-    ensures { result ≡ position.now.marks * position.now.places }
+    ensures { result ≡ position.now.marks * position.now.counts.places }
 {
-    position.marks as u128 * position.places as u128
+    position.marks as u128 * position.counts.places as u128
 }
 
 // Whether a board of so many spans has every place, and a keep of so many holds the boards of the marks.
 fn check_keep(position: &Position, board: usize, keep: usize) -> Result<(), Refusal>
     ensures { result ≡ keep_checked position.now board keep }
 {
-    if board < position.places as usize {
-        return Err(Refusal::TooShort);
-    }
-    if (keep as u128) < kept_spans(position) {
+    if board < position.counts.places as usize || (keep as u128) < kept_spans(position) {
         return Err(Refusal::TooShort);
     }
     Ok(())
@@ -32,7 +29,7 @@ pub fn mark<S: Span>(position: &mut Position, board: &[S], keep: &mut [S]) -> Re
     ensures { MarkCall position.old board.now keep.old result position.new keep.new }
 {
     check_keep(position, board.len(), keep.len())?;
-    let size = position.places as usize;
+    let size = position.counts.places as usize;
     if keep.len() - position.marks * size < size {
         return Err(Refusal::KeepFull);
     }
@@ -50,7 +47,7 @@ pub fn back<S: Span>(position: &mut Position, board: &mut [S], keep: &[S]) -> Re
         return Err(Refusal::NoMark);
     }
     let below = position.marks - 1;
-    restore(keep, below, position.places as usize, board);
+    restore(keep, below, position.counts.places as usize, board);
     position.marks = below;
     Ok(())
 }

@@ -4,6 +4,7 @@ ghost use Rattle.engine.specs.History.{HistoryLaw};
 
 use super::Position;
 use super::settling::{attempt, prepare};
+use crate::counts::Counts;
 use crate::refusal::Refusal;
 use crate::sweep::Strikes;
 use books::Book;
@@ -16,6 +17,7 @@ pub struct Opened {
 }
 
 // Settles the board, as far as the book counts places. Its law is the law of all histories of the book.
+#[tactic(auto, using(crate::proofs::Law::history_law_lem, crate::proofs::Exits::checked_long))]
 pub fn opening<B: Book>(
     book: &B,
     board: &mut [B::Span],
@@ -26,23 +28,14 @@ pub fn opening<B: Book>(
     ensures law { HistoryLaw B.Span.Span.kind (B.Book.meaning book.now) }
 {
     book.lawful();
-    let places = book.places();
-    let rules = book.rules();
-    if board.len() < places as usize {
-        return Err(Refusal::TooShort);
-    }
-    if working.len() < places as usize {
-        return Err(Refusal::TooShort);
-    }
-    if waiting.len() < rules as usize {
-        return Err(Refusal::TooShort);
-    }
-    prepare(board, working, waiting, places, rules)?;
+    let counts = Counts::of(book);
+    counts.check_memory(board, working, waiting)?;
+    let places = counts.places as usize;
+    let board = &mut board[0..places];
+    let working = &mut working[0..places];
+    let waiting = &mut waiting[0..counts.rules as usize];
+    prepare(board, working, waiting)?;
     let strikes = attempt(book, board, working, waiting)?;
-    let position = Position {
-        places,
-        rules,
-        marks: 0,
-    };
+    let position = Position { counts, marks: 0 };
     Ok(Opened { position, strikes })
 }

@@ -3,9 +3,9 @@ ghost use Rattle.records.specs.Places.{place_shown};
 ghost use Rattle.records.specs.Names.{named, position_after, known_place};
 
 use super::Names;
-use crate::fault::SheetFault;
 use crate::places::PlaceRow;
 use books::Place;
+use sheets::SheetFault;
 use text::{At, name, same_name};
 
 // The most places that a board has.
@@ -33,12 +33,8 @@ impl<'n, 's> Names<'n, 's> {
     pub fn position(self, name: &[u8]) -> Option<Place>
         ensures { result ≡ position_after 0 (named self.entry) name.now }
     {
-        for (i, place) in self.places.iter().enumerate() {
-            if same_name(place.name, name) {
-                return Some(i as Place);
-            }
-        }
-        None
+        let i = self.places.iter().position(|place| same_name(place.name, name))?;
+        Some(i as Place)
     }
 
     // The number of the place that a field names: fault 4 where the field is no name, fault 9 where no place has it.

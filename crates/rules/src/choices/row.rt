@@ -3,10 +3,13 @@ ghost use Rattle.rules.specs.TokenSets.{keeping};
 ghost use Rattle.rules.specs.Between.{answer_from, place_on_side};
 ghost use Rattle.rules.specs.ChoiceRows.{places_of};
 ghost use Rattle.rules.specs.ChoiceRules.{link_of};
+ghost use Rattle.rules.specs.ChoiceBooks.{rule_of};
+ghost use Rattle.rules.specs.ArcConsistency.{ArcConsistentFor};
 
 use super::apart::{ApartRow, kept_apart};
 use super::pair::PairRow;
 use super::side::Side;
+use crate::rows::Row;
 use books::Place;
 use spans::{Choice, Span};
 
@@ -18,16 +21,6 @@ pub enum ChoiceRow {
 }
 
 impl ChoiceRow {
-    // How many places the boards have that the rule is for.
-    pub fn places(&self) -> Place
-        ensures { result ≡ places_of self.now }
-    {
-        match self {
-            ChoiceRow::Pair(row) => row.places,
-            ChoiceRow::Apart(row) => row.places,
-        }
-    }
-
     // Its place on a side.
     pub fn place_on(&self, side: Side) -> Place
         ensures { result ≡ place_on_side (link_of self.now) side }
@@ -64,5 +57,46 @@ impl ChoiceRow {
             return self.kept(Side::Second, span, one);
         }
         span
+    }
+}
+
+impl Row for ChoiceRow {
+    type Span = Choice;
+
+    ghost boards = { places_of };
+
+    ghost rule = { rule_of };
+
+    ghost consistent = { ArcConsistentFor };
+
+    fn lawful() {}
+
+    fn places(&self) -> Place {
+        match self {
+            ChoiceRow::Pair(row) => row.places,
+            ChoiceRow::Apart(row) => row.places,
+        }
+    }
+
+    fn scope_len(&self) -> u8 {
+        2
+    }
+
+    fn scope_at(&self, i: u8) -> Option<Place> {
+        match i {
+            0 => Some(self.place_on(Side::First)),
+            1 => Some(self.place_on(Side::Second)),
+            _ => None,
+        }
+    }
+
+    fn answer_on(&self, place: Place, board: &[Choice]) -> Option<Choice> {
+        if !self.is_on(place, board) {
+            return None;
+        }
+        let span = board[place as usize];
+        let one = board[self.place_on(Side::First) as usize];
+        let two = board[self.place_on(Side::Second) as usize];
+        Some(self.answer(place, span, one, two))
     }
 }

@@ -5,9 +5,7 @@ use std::test::Fail;
 
 #[test]
 fn refused_rows(rt: HostRuntime) -> Result<(), Fail> {
-    let Some(pair) = TokenPair::new(63, 0) else {
-        return Err(Fail::new("two tokens"));
-    };
+    let pair = TokenPair::new(63, 0).ok_or("two tokens")?;
     assert!(rt; TokenPair::new(64, 0).is_none());
     assert!(rt; ApartRow::new(2, 0, 2).is_none(), "a place past the board");
     assert!(rt; ApartRow::new(2, 1, 1).is_none(), "one place twice");
@@ -19,15 +17,9 @@ fn refused_rows(rt: HostRuntime) -> Result<(), Fail> {
 
 #[test]
 fn pairs_keep_what_is_joined(rt: HostRuntime) -> Result<(), Fail> {
-    let Some(up) = TokenPair::new(0, 1) else {
-        return Err(Fail::new("two tokens"));
-    };
-    let Some(more) = TokenPair::new(1, 2) else {
-        return Err(Fail::new("two tokens"));
-    };
-    let Some(row) = PairRow::new(2, 0, 1, &[up, more]) else {
-        return Err(Fail::new("a row"));
-    };
+    let up = TokenPair::new(0, 1).ok_or("two tokens")?;
+    let more = TokenPair::new(1, 2).ok_or("two tokens")?;
+    let row = PairRow::new(2, 0, 1, &[up, more]).ok_or("a row")?;
     let all = Choice::first(3);
     assert_eq!(rt; row.kept(Side::First, all, all), Choice::first(2));
     assert_eq!(rt; row.kept(Side::Second, all, all), all.without(0));
@@ -48,9 +40,7 @@ fn apart_strikes_the_only_token(rt: HostRuntime) {
 
 #[test]
 fn rows_for_other_boards_change_nothing(rt: HostRuntime) -> Result<(), Fail> {
-    let Some(row) = ApartRow::new(3, 0, 1) else {
-        return Err(Fail::new("a row"));
-    };
+    let row = ApartRow::new(3, 0, 1).ok_or("a row")?;
     let rows = [ChoiceRow::Apart(row)];
     let small = ChoiceBook::new(2, &rows);
     assert_eq!(rt; small.scope_len(0), 1);

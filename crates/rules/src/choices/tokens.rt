@@ -18,8 +18,6 @@ pub(crate) fn only_token(span: Choice) -> Option<u8>
     if !span.is_single() {
         return None;
     }
-    match span.least() {
-        Some(token) => Some(token as u8),
-        None => None,
-    }
+    let token = span.least()?;
+    Some(token as u8)
 }

@@ -8,27 +8,31 @@ use crate::sums::term::Term;
 use books::Place;
 use spans::{Amount, Span};
 
-// The least product of the coefficient and a number of the span.
-fn least_product(coefficient: i32, span: Amount) -> i64
-    requires { T (is_coefficient coefficient) }
-    ensures { result ≡ least_product_of coefficient span }
-{
-    if 0 < coefficient {
-        coefficient as i64 * span.floor() as i64
-    } else {
-        coefficient as i64 * span.ceiling() as i64
-    }
+// The products of a coefficient and the numbers of a span lie between these two.
+#[derive(Clone, Copy)]
+struct Products {
+    least: i64,
+    greatest: i64,
 }
 
-// The greatest product of the coefficient and a number of the span.
-fn greatest_product(coefficient: i32, span: Amount) -> i64
+// The least product of the coefficient and a number of the span, and the greatest.
+fn products_of(coefficient: i32, span: Amount) -> Products
     requires { T (is_coefficient coefficient) }
-    ensures { result ≡ greatest_product_of coefficient span }
+    ensures least { result.least ≡ least_product_of coefficient span }
+    ensures greatest { result.greatest ≡ greatest_product_of coefficient span }
 {
+    let at_floor = coefficient as i64 * span.floor() as i64;
+    let at_ceiling = coefficient as i64 * span.ceiling() as i64;
     if 0 < coefficient {
-        coefficient as i64 * span.ceiling() as i64
+        Products {
+            least: at_floor,
+            greatest: at_ceiling,
+        }
     } else {
-        coefficient as i64 * span.floor() as i64
+        Products {
+            least: at_ceiling,
+            greatest: at_floor,
+        }
     }
 }
 
@@ -57,12 +61,11 @@ pub(super) fn add_others(terms: &[Term], place: Place, board: &[Amount]) -> Opti
         if t.place == place {
             found = Some(i);
         } else {
-            low += least_product(t.coefficient, span);
-            high += greatest_product(t.coefficient, span);
+            let products = products_of(t.coefficient, span);
+            low += products.least;
+            high += products.greatest;
         }
     }
-    match found {
-        Some(asked) => Some(Others { asked, low, high }),
-        None => None,
-    }
+    let asked = found?;
+    Some(Others { asked, low, high })
 }

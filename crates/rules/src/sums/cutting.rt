@@ -7,24 +7,16 @@ ghost use Rattle.rules.specs.Sums.{keep_at_most, keep_at_least};
 
 use spans::Amount;
 
-// The numbers of the span up to the limit.
-fn cut_above(span: Amount, limit: i64) -> Amount
-    ensures { result ≡ amount_from span.floor (int_min limit span.ceiling) }
+// The numbers of the span from low to high.
+fn cut(span: Amount, low: i64, high: i64) -> Amount
+    ensures { result ≡ amount_from (int_max low span.floor) (int_min high span.ceiling) }
 {
-    if limit < span.floor() as i64 {
+    let floor = low.max(span.floor() as i64);
+    let ceiling = high.min(span.ceiling() as i64);
+    if floor > ceiling {
         return Amount::empty();
     }
-    Amount::between(span.floor(), limit.min(span.ceiling() as i64) as i32)
-}
-
-// The numbers of the span from the limit on.
-fn cut_below(span: Amount, limit: i64) -> Amount
-    ensures { result ≡ amount_from (int_max limit span.floor) span.ceiling }
-{
-    if limit > span.ceiling() as i64 {
-        return Amount::empty();
-    }
-    Amount::between(limit.max(span.floor() as i64) as i32, span.ceiling())
+    Amount::between(floor as i32, ceiling as i32)
 }
 
 // The numbers x of the span with a * x at most r. The quotient is rounded inward, whatever the signs.
@@ -34,9 +26,9 @@ pub(super) fn at_most(span: Amount, a: i32, r: i64) -> Amount
     ensures { result ≡ keep_at_most a r span }
 {
     if 0 < a {
-        return cut_above(span, r.div_euclid(a as i64));
+        return cut(span, span.floor() as i64, r.div_euclid(a as i64));
     }
-    cut_below(span, -r.div_euclid(-(a as i64)))
+    cut(span, -r.div_euclid(-(a as i64)), span.ceiling() as i64)
 }
 
 // Those with a * x at least r.

@@ -12,15 +12,12 @@ fn term(coefficient: i32, place: Place) -> Term {
 
 // A sum that the tests take for one.
 fn sum(places: Place, relation: Relation, bound: i64, terms: &[Term]) -> Result<SumRow, Fail> {
-    let Some(row) = SumRow::new(places, relation, bound, terms) else {
-        return Err(Fail::new("no sum"));
-    };
-    Ok(row)
+    Ok(SumRow::new(places, relation, bound, terms).ok_or("no sum")?)
 }
 
 // A book may be handed back in a Result.
 fn book_of(places: Place, rows: &[SumRow]) -> Result<SumBook<'_>, u8> {
-    if rows.len() == 0 {
+    if rows.is_empty() {
         return Err(0);
     }
     Ok(SumBook::new(places, rows))

@@ -1,12 +1,14 @@
 // How amounts are made, and that they are spans.
-ghost use Rattle.std.specs.Prelude.{◌≡◌, ◌&&◌, ℤ, IfOk};
+ghost use Rattle.std.specs.Prelude.{◌≡◌, ◌&&◌, ℤ, Some, IfOk};
 ghost use Rattle.spans.specs.Bounds.{bounded};
 ghost use Rattle.spans.specs.Amounts.{asked, amount_admits, amount_from, from_to, no_amount};
 ghost use Rattle.spans.specs.AmountKind.{amounts};
+ghost use Rattle.spans.specs.Texts.{amount_text};
 
 use super::Amount;
 use crate::Span;
 use crate::refusal::SpanRefusal;
+use std::fmt;
 
 const MILLION: i32 = 1_000_000;
 
@@ -68,9 +70,15 @@ impl Span for Amount {
     }
 
     fn least(self) -> Option<i32> {
-        if self.floor > self.ceiling {
-            return None;
-        }
-        Some(self.floor)
+        (self.floor <= self.ceiling).then_some(self.floor)
+    }
+}
+
+// Its floor, two dots and its ceiling.
+impl fmt::Display for Amount {
+    ghost output = { λ a. Some (amount_text a) };
+
+    fn fmt<W: fmt::Write>(&self, f: &mut fmt::Formatter<W>) -> fmt::Result {
+        write!(f, "{}..{}", self.floor, self.ceiling)
     }
 }

@@ -1,11 +1,13 @@
 // How choices are made and changed, and that they are spans.
-ghost use Rattle.std.specs.Prelude.{false, not, ◌&&◌, ◌||◌, pos, ◌==◌, nat_eq, nat_lt};
+ghost use Rattle.std.specs.Prelude.{Some, false, not, ◌&&◌, ◌||◌, pos, ◌==◌, nat_eq, nat_lt};
 ghost use Rattle.spans.specs.Masks.{Marks};
 ghost use Rattle.spans.specs.Choices.{Exactly, choice_admits};
 ghost use Rattle.spans.specs.ChoiceKind.{choices};
+ghost use Rattle.spans.specs.Texts.{choice_text};
 
 use super::Choice;
 use crate::Span;
+use std::fmt;
 
 // How many tokens there are.
 const TOKENS: u8 = 64;
@@ -79,6 +81,7 @@ impl Span for Choice {
     }
 
     fn admits(self, number: i32) -> bool {
+        // A test and a cast: `try_from` would still let 64 to 255 through.
         if number < 0 || number >= TOKENS as i32 {
             return false;
         }
@@ -86,9 +89,21 @@ impl Span for Choice {
     }
 
     fn least(self) -> Option<i32> {
-        if self.mask == 0 {
-            return None;
+        (self.mask != 0).then_some(self.mask.trailing_zeros() as i32)
+    }
+}
+
+// Its tokens between braces, as `{ 0 5 }`.
+impl fmt::Display for Choice {
+    ghost output = { λ c. Some (choice_text c) };
+
+    fn fmt<W: fmt::Write>(&self, f: &mut fmt::Formatter<W>) -> fmt::Result {
+        f.write_str("{")?;
+        for token in 0..TOKENS {
+            if self.admits(token as i32) {
+                write!(f, " {token}")?;
+            }
         }
-        Some(self.mask.trailing_zeros() as i32)
+        f.write_str(" }")
     }
 }

@@ -47,6 +47,7 @@ impl<'s> Lines<'s> {
     }
 
     // The next line without its byte 10; nothing at the sheet's end.
+    // No `Iterator`: a fault leaves the reader where it was and is answered again for ever, so the answers need not end.
     pub fn next(&mut self) -> Result<Option<&'s [u8]>, TextFault>
         ensures answer { shown_line result ≡ (line_next self.old.read (left self.old)).answer }
         ensures left { left self.new ≡ (line_next self.old.read (left self.old)).left }
@@ -55,7 +56,7 @@ impl<'s> Lines<'s> {
     {
         let sheet = self.sheet;
         let rest = &sheet[self.offset..];
-        if rest.len() == 0 {
+        if rest.is_empty() {
             return Ok(None);
         }
         let n = length_before(b'\n', rest);
@@ -68,6 +69,6 @@ impl<'s> Lines<'s> {
         }
         self.offset += n + 1;
         self.read = line;
-        Ok(Some(&rest[0..n]))
+        Ok(Some(&rest[..n]))
     }
 }

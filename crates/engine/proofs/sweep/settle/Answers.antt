@@ -1,13 +1,13 @@
-use Rattle.std.proofs.Common.{◌≡◌, ℕ, zero, suc, ◌+◌, ◌<◌, List, length, Err, sym, refl, ap, ◌∙◌, subst, arith}
+use Rattle.std.proofs.Common.{◌≡◌, ℕ, zero, suc, ◌+◌, ◌-◌, ◌<◌, ◌≤◌, List, ◌++◌, length, take, drop, replicate, Err, sym, refl, ap, ◌∙◌, subst, arith, length-append, length-drop}
+use Rattle.std.proofs.lemmas.List.{length-take-le}
 use Rattle.std.proofs.lemmas.Result.{err_from_is_err_and}
 use Rattle.spans.specs.Kind.{Kind}
 use Rattle.books.specs.Meaning.{Meaning, Lawful}
 use Rattle.books.specs.Sweeps.{total}
 use Rattle.engine.specs.Lent.{skim_told}
 use Rattle.engine.specs.Skims.{halted, onward, skim, skims, skimmed}
-use Rattle.engine.specs.Waiting.{filled}
 use Rattle.engine.proofs.Falling.{Kept, Keeps, total_most, skim_keeps, skims_stop, skims_end, skims_more}
-use Rattle.engine.proofs.Waits.{length_filled}
+use Rattle.engine.proofs.Waits.{filled_front}
 use Rattle.engine.proofs.sweep.settle.Goals as goal
 
 pub loop-after-init : goal.loop-after-init
@@ -18,10 +18,9 @@ sweep-requires g c =
     let kind = g.B.Span.Span.kind in
     let book = g.B.Book.meaning c.args.book.now in
     let k = c.loop-after.invariant.2 in
-    let w : length c.fill.new.waiting ≡ length c.args.waiting.now = ap length c.fill.ensures ∙ length_filled c.rules.result _ c.args.waiting.now (omega arith) in
     record {
       full = k.full;
-      waiting = omega (arith, k.long, w, c.requires.waiting);
+      waiting = omega (arith, k.long, c.requires.waiting, length-append c.fill.new.self (drop (c.rules.result - 0) c.args.waiting.now), length-drop (c.rules.result - 0) c.args.waiting.now, c.fill.ensures.len, length-take-le (c.rules.result - 0) c.args.waiting.now (omega arith));
       few = omega (arith, k.falls, total_most kind c.args.board.now, c.requires.full.long, c.lawful.ensures.few_places);
     }
 
@@ -59,9 +58,10 @@ module _ {S : Type 0} (kind : Kind S) (book : Meaning S) (law : Lawful kind book
         go (suc j) h = (j, omega (arith, falls z), skims_more kind book j b w s b' w' s' e z)
 
 -- every rule waits at first
-all-wait : {S : Type 0} (kind : Kind S) (book : Meaning S) (b : List S) (w w' : List ℕ) (rules : ℕ) → rules ≡ book.rules → w' ≡ filled rules 1 w → skims kind book (suc (total kind b)) b w' 0 ≡ skimmed kind book b w
+all-wait : {S : Type 0} (kind : Kind S) (book : Meaning S) (b : List S) (w front : List ℕ) (n : ℕ) → n ≡ book.rules → book.rules ≤ length w → front ≡ replicate (length (take n w)) 1
+    → skims kind book (suc (total kind b)) b (front ++ drop n w) 0 ≡ skimmed kind book b w
 unfolding skimmed
-all-wait kind book b w w' rules e f = ap (λ (v : List ℕ). skims kind book (suc (total kind b)) b v 0) (f ∙ ap (λ (n : ℕ). filled n 1 w) e)
+all-wait kind book b w front n e h f = ap (λ (v : List ℕ). skims kind book (suc (total kind b)) b v 0) (filled_front book.rules n 1 w front e h f)
 
 pub returns-in_err-after : goal.returns-in_err-after
 returns-in_err-after g c =
@@ -70,7 +70,7 @@ returns-in_err-after g c =
     let l = c.loop-after in
     let by = c.in_err-after.field-0.0 in
     let p = err_from_is_err_and c.from_residual.result c.from_residual.ensures.1 in
-    let whole = all-wait kind book c.args.board.now c.args.waiting.now c.fill.new.waiting c.rules.result c.rules.ensures c.fill.ensures in
+    let whole = all-wait kind book c.args.board.now c.args.waiting.now c.fill.new.self _ (omega arith) c.requires.waiting (c.fill.ensures.after (λ y e. e)) in
     ap (λ r. skim_told r c.sweep.new.board c.sweep.new.waiting) (p.1 ∙ ap Err p.2)
     ∙ sym (l.invariant.3 ∙ stop kind book c.lawful.ensures _ _ l.invariant.0 l.board l.waiting l.strikes l.invariant.1 l.invariant.2 by.place by.rule (sym c.in_err-after.ensures)) ∙ whole
 
@@ -79,7 +79,7 @@ returns-then-after-strikes g c =
     let kind = g.B.Span.Span.kind in
     let book = g.B.Book.meaning c.args.book.now in
     let l = c.loop-after in
-    let whole = all-wait kind book c.args.board.now c.args.waiting.now c.fill.new.waiting c.rules.result c.rules.ensures c.fill.ensures in
+    let whole = all-wait kind book c.args.board.now c.args.waiting.now c.fill.new.self _ (omega arith) c.requires.waiting (c.fill.ensures.after (λ y e. e)) in
     ap (onward c.sweep.new.board c.sweep.new.waiting) (sym c.if-after-strikes.true)
     ∙ sym (l.invariant.3 ∙ end kind book c.lawful.ensures _ _ l.invariant.0 l.board l.waiting l.strikes l.invariant.1 l.invariant.2 c.sweep.new.board c.sweep.new.waiting c.in_ok-after.after (sym c.in_ok-after.ensures) c.if-after-strikes.true) ∙ whole
 

@@ -1,6 +1,6 @@
 use Rattle.std.proofs.Common.{◌≡◌, ℕ, ◌≤◌, List, map, length, take, Ok, Result, refl, ap, ◌∙◌, rules}
 use Rattle.std.proofs.lemmas.List.{length-map}
-use Rattle.records.specs.declared.fault.SheetFault.{SheetFault}
+use Rattle.sheets.specs.declared.fault.SheetFault.{SheetFault}
 use Rattle.records.specs.Names.{named}
 use Rattle.records.specs.Places.{Place, place_shown}
 use Rattle.readings.specs.Readings.{Reading, expansion_read}

@@ -2,9 +2,9 @@ use Rattle.std.proofs.Common.{◌≡◌, ℕ, ◌+◌, ◌-◌, ◌<◌, ◌≤�
 use native.Mathlib.Nat.{sub-zero}
 use Rattle.std.proofs.lemmas.List.{map-set, length-map, take-map, take_more_set}
 use Rattle.std.proofs.lemmas.Result.{err_from_is_err_and}
-use Rattle.records.specs.declared.fault.SheetFault.TheVariants.{Full}
+use Rattle.sheets.specs.declared.fault.SheetFault.TheVariants.{Full}
 use Rattle.records.specs.declared.places.PlaceRow.{PlaceRow}
-use Rattle.records.specs.declared.kind.SpanKind.{SpanKind}
+use Rattle.sheets.specs.declared.title.SpanKind.{SpanKind}
 use Rattle.records.specs.Places.{place_shown, place_line}
 use Rattle.readings.specs.Lines.{whole, lines_left}
 use Rattle.readings.specs.Readings.{rules_from, place_room, rule_room}

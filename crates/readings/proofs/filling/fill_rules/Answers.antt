@@ -2,7 +2,7 @@ use Rattle.std.proofs.Common.{◌≡◌, ◌+◌, ◌<◌, ◌≤◌, ◌∷◌,
 use Rattle.std.proofs.lemmas.List.{map-set, length-map, take_more_set}
 use Rattle.std.proofs.lemmas.Result.{err_from_is_err_and, IfOk-from_err}
 use Rattle.text.specs.Lines.{shown_option}
-use Rattle.records.specs.declared.fault.SheetFault.TheVariants.{Full}
+use Rattle.sheets.specs.declared.fault.SheetFault.TheVariants.{Full}
 use Rattle.records.specs.Names.{named}
 use Rattle.readings.specs.Lines.{whole, lines_left}
 use Rattle.readings.specs.Readings.{rule_room}

@@ -5,7 +5,7 @@ use Rattle.readings.proofs.meaning.sum_book.Goals as goal
 
 pub returns : goal.returns
 returns c = record {
-  places = c.new.ensures.0 ∙ c.count.ensures ∙ ap length c.new-names.ensures ∙ places_counted c.args.sheet.now.places.now;
-  rules = c.new.ensures.1;
+  places = c.new.ensures.holds.0 ∙ c.count.ensures ∙ ap length c.new-names.ensures ∙ places_counted c.args.sheet.now.places.now;
+  rules = c.new.ensures.holds.1;
   law = sums_mean _ _;
 }

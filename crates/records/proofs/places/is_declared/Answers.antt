@@ -1,14 +1,12 @@
-use Rattle.std.proofs.Common.{map, sym, ◌∙◌}
-use Rattle.std.proofs.lemmas.List.{at_drop_all}
-use Rattle.records.specs.Places.{place_shown, declares}
-use Rattle.records.proofs.Declaring.{declared_here, declared_later}
+use Rattle.std.proofs.Common.{◌≡◌, ◌∙◌, rules}
+use Rattle.std.proofs.lemmas.Iterator.{YieldsList-from_slice}
+use Rattle.std.proofs.lemmas.Iterator.Search.{any_from_yields_List}
+use Rattle.text.specs.Names.{same_name}
+use Rattle.records.specs.declared.places.PlaceRow.{PlaceRow}
+use Rattle.records.proofs.Naming.{any_shown}
 use Rattle.records.proofs.places.is_declared.Goals as goal
 
-pub returns-then-same_name : goal.returns-then-same_name
-returns-then-same_name c = sym (declared_here c.args.places.now c.args.name.now c.loop-place.place-index _ c.loop-place-test.true c.if-same_name.ensures.same) ∙ c.loop-place.invariant
-
-pub loop-place-preserved : goal.loop-place-preserved
-loop-place-preserved c = sym (declared_later c.args.places.now c.args.name.now c.loop-place.place-index _ c.loop-place-test.true c.if-same_name.ensures.same) ∙ c.loop-place.invariant
-
 pub returns : goal.returns
-returns c = sym (at_drop_all (λ l. declares (map place_shown l) c.args.name.now) c.args.places.now c.loop-place.place-index c.loop-place-test.false) ∙ c.loop-place.invariant
+returns c =
+    any_from_yields_List (λ (row : PlaceRow). same_name row.name.now c.args.name.now) _ _ c.any.result c.any.ensures.ran (YieldsList-from_slice c.args.places.now (cc)) (λ x b q k. search rules)
+    ∙ any_shown c.args.places.now c.args.name.now

@@ -1,11 +1,16 @@
 // How the rows of sums are made and read.
 ghost use Rattle.std.specs.Prelude.{◌≡◌, ◌≤◌, length};
 ghost use Rattle.rules.specs.SumTerms.{bound_test, term_test, sum_test, terms_test};
-ghost use Rattle.rules.specs.SumRows.{Made, padded, terms_of, uses};
+ghost use Rattle.rules.specs.SumRows.{Made, boards_of, padded, terms_of, uses};
+ghost use Rattle.rules.specs.SumBooks.{rule_of};
+ghost use Rattle.rules.specs.SumConsistency.{BoundsConsistent};
 
 use super::{MOST_TERMS, SumRow};
+use crate::rows::Row;
+use crate::sums::answers::sum_answer;
 use crate::sums::term::{Relation, Term};
 use books::Place;
+use spans::Amount;
 
 const MOST_BOUND: i64 = 1_000_000_000_000;
 
@@ -20,46 +25,42 @@ const BLANK: Term = Term {
 fn is_bound(bound: i64) -> bool
     ensures { result ≡ bound_test bound }
 {
-    -MOST_BOUND <= bound && bound <= MOST_BOUND
+    (-MOST_BOUND..=MOST_BOUND).contains(&bound)
 }
 
 // Whether the term may stand in a sum on boards of so many places.
 fn is_term(places: Place, t: Term) -> bool
     ensures { result ≡ term_test places t }
 {
-    let a = t.coefficient;
-    -MOST_COEFFICIENT <= a && a <= MOST_COEFFICIENT && (a < 0 || 0 < a) && t.place < places
+    (-MOST_COEFFICIENT..=MOST_COEFFICIENT).contains(&t.coefficient)
+        && t.coefficient != 0
+        && t.place < places
 }
 
 // Whether one of the terms has the place.
 pub fn uses_place(terms: &[Term], place: Place) -> bool
     ensures { result ≡ uses terms.now place }
 {
-    for t in terms {
-        if t.place == place {
-            return true;
-        }
-    }
-    false
+    terms.iter().any(|t| place == t.place)
 }
 
 // Whether each term may stand in a sum, and no place stands twice.
 fn are_terms(places: Place, terms: &[Term]) -> bool
     ensures { result ≡ terms_test places terms.now }
 {
-    for (i, t) in terms.iter().enumerate() {
-        if !is_term(places, *t) || uses_place(&terms[i + 1..], t.place) {
-            return false;
-        }
+    match terms {
+        [] => true,
+        [t, rest @ ..] => is_term(places, *t)
+            && !uses_place(rest, t.place)
+            && are_terms(places, rest),
     }
-    true
 }
 
 // Whether a row may be made of these.
 fn is_sum(places: Place, bound: i64, terms: &[Term]) -> bool
     ensures { result ≡ sum_test places bound terms.now }
 {
-    is_bound(bound) && 1 <= terms.len() && terms.len() <= MOST_TERMS && are_terms(places, terms)
+    is_bound(bound) && (1..=MOST_TERMS).contains(&terms.len()) && are_terms(places, terms)
 }
 
 // The terms, and blank entries up to 16.
@@ -89,13 +90,6 @@ impl SumRow {
         })
     }
 
-    // How many places the boards have that the sum is for.
-    pub fn places(&self) -> Place
-        ensures { result ≡ self.now.places }
-    {
-        self.places
-    }
-
     // How the total is to stand to the bound.
     pub fn relation(&self) -> Relation
         ensures { result ≡ self.now.relation }
@@ -115,5 +109,36 @@ impl SumRow {
         ensures { result.now ≡ terms_of self.now }
     {
         &self.terms[0..self.count as usize]
+    }
+}
+
+impl Row for SumRow {
+    type Span = Amount;
+
+    ghost boards = { boards_of };
+
+    ghost rule = { rule_of };
+
+    ghost consistent = { BoundsConsistent };
+
+    fn lawful() {}
+
+    fn places(&self) -> Place {
+        self.places
+    }
+
+    fn scope_len(&self) -> u8 {
+        self.terms().len() as u8
+    }
+
+    fn scope_at(&self, i: u8) -> Option<Place> {
+        self.terms().get(i as usize).map(|t| t.place)
+    }
+
+    fn answer_on(&self, place: Place, board: &[Amount]) -> Option<Amount> {
+        if !self.is_on(place, board) {
+            return None;
+        }
+        Some(sum_answer(self, place, board))
     }
 }

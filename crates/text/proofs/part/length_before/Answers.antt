@@ -1,14 +1,12 @@
-use Rattle.std.proofs.Common.{length, arith}
-use Rattle.std.proofs.lemmas.List.{at_drop_all}
-use Rattle.text.specs.Parts.{before}
-use Rattle.text.proofs.Cutting.{before_more, before_stops}
+use Rattle.std.proofs.Common.{rules, tests, ◌≡◌, ◌==◌, length, unwrap_or, ap, ◌∙◌}
+use Rattle.std.proofs.lemmas.Iterator.{YieldsList-from_slice}
+use Rattle.std.proofs.lemmas.Iterator.Search.{position_from_yields_List}
+use Rattle.std.specs.List.{position}
+use Rattle.text.proofs.Cutting.{position_before}
 use Rattle.text.proofs.part.length_before.Goals as goal
 
-pub returns-then-b-mark : goal.returns-then-b-mark
-returns-then-b-mark c = record { value = omega (arith, before_stops c.args.mark c.args.bytes.now c.loop-i.i c.loop-i-test.true c.if-b-mark.true); within = omega arith }
-
-pub loop-i-preserved : goal.loop-i-preserved
-loop-i-preserved c = omega (arith, before_more c.args.mark c.args.bytes.now c.loop-i.i c.loop-i-test.true c.if-b-mark.false)
-
-pub returns : goal.returns
-returns c = record { value = omega (arith, at_drop_all (λ xs. length (before c.args.mark xs)) c.args.bytes.now c.loop-i.i c.loop-i-test.false); within = omega arith }
+pub returns-clause-value : goal.returns-clause-value
+returns-clause-value c =
+    let bs = c.args.bytes.now in
+    let e : c.position.result ≡ position (λ b. b == c.args.mark) bs = position_from_yields_List _ _ _ _ c.position.ensures.ran (YieldsList-from_slice bs cc) (λ x b q k. search (rules, tests)) in
+    c.unwrap_or.ensures ∙ ap (λ o. unwrap_or o (length bs)) e ∙ position_before c.args.mark bs

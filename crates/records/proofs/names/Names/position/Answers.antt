@@ -1,15 +1,20 @@
-use Rattle.std.proofs.Common.{map, sym, ◌∙◌}
-use Rattle.std.proofs.lemmas.List.{at_drop_all}
-use Rattle.records.specs.Places.{place_shown}
-use Rattle.records.specs.Names.{position_after}
-use Rattle.records.proofs.Naming.{found, passed}
+use Rattle.std.proofs.Common.{◌≡◌, ◌∙◌, rules}
+use Rattle.std.proofs.lemmas.Iterator.{YieldsList-from_slice}
+use Rattle.std.proofs.lemmas.Iterator.Search.{position_from_yields_List}
+use Rattle.std.proofs.lemmas.Iterator.Adapters.{position_from-zero}
+use Rattle.text.specs.Names.{same_name}
+use Rattle.records.specs.declared.places.PlaceRow.{PlaceRow}
+use Rattle.records.proofs.Naming.{position_shown}
 use Rattle.records.proofs.names.Names.position.Goals as goal
 
-pub returns-then-same_name : goal.returns-then-same_name
-returns-then-same_name c = sym (found c.args.self.places.now c.args.name.now c.loop-i.i _ c.loop-i-test.true c.if-same_name.ensures.same) ∙ c.loop-i.invariant
-
-pub loop-i-preserved : goal.loop-i-preserved
-loop-i-preserved c = sym (passed c.args.self.places.now c.args.name.now c.loop-i.i _ c.loop-i-test.true c.if-same_name.ensures.same) ∙ c.loop-i.invariant
+pub returns-in_err-i : goal.returns-in_err-i
+returns-in_err-i c =
+    let test = λ (row : PlaceRow). same_name row.name.now c.args.name.now in
+    let e = position_from_yields_List test _ _ c.position.result c.position.ensures.ran (YieldsList-from_slice c.args.self.places.now (cc)) (λ x b q k. search rules) ∙ position_from-zero test c.args.self.places.now ∙ position_shown 0 c.args.self.places.now c.args.name.now in
+    search (rules, e)
 
 pub returns : goal.returns
-returns c = sym (at_drop_all (λ l. position_after c.loop-i.i (map place_shown l) c.args.name.now) c.args.self.places.now c.loop-i.i c.loop-i-test.false) ∙ c.loop-i.invariant
+returns c =
+    let test = λ (row : PlaceRow). same_name row.name.now c.args.name.now in
+    let e = position_from_yields_List test _ _ c.position.result c.position.ensures.ran (YieldsList-from_slice c.args.self.places.now (cc)) (λ x b q k. search rules) ∙ position_from-zero test c.args.self.places.now ∙ position_shown 0 c.args.self.places.now c.args.name.now in
+    search (rules, e)

@@ -5,9 +5,9 @@ use Rattle.spans.specs.Choices.{choice_size}
 use Rattle.rules.proofs.Keeping.{least_told}
 use Rattle.rules.proofs.choices.tokens.only_token.Goals as goal
 
-pub returns-in-Some : goal.returns-in-Some
-returns-in-Some c =
+pub returns : goal.returns
+returns c =
     let one : choice_size c.args.span ≡ 1 = eqb-true (choice_size c.args.span) 1 (sym c.if-not-is_single.ensures.count) in
-    let least = least_told c.args.span c.in-Some.token one c.in-Some.ensures in
-    let fits : SFits w32 c.in-Some.token = search rules in
-    (one, sym (ap (λ (x : ℤ). pos (nat_abs x)) (to_z-of_z w32 c.in-Some.token fits ∙ least)))
+    let least = least_told c.args.span c.in_ok-token.token one c.in_ok-token.ensures in
+    let fits : SFits w32 c.in_ok-token.token = search rules in
+    (one, sym (ap (λ (x : ℤ). pos (nat_abs x)) (to_z-of_z w32 c.in_ok-token.token fits ∙ least)))

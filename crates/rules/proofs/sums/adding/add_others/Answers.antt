@@ -35,8 +35,8 @@ loop-i-init c =
     let a = index_in ts c.args.place in
     (refl, refl, adding_none (least_on c.args.board.now) a ts, adding_none (greatest_on c.args.board.now) a ts)
 
-pub least_product-low-requires : goal.least_product-low-requires
-least_product-low-requires c =
+pub products_of-products-requires : goal.products_of-products-requires
+products_of-products-requires c =
     let b = c.args.board.now in
     let ts = c.args.terms.now in
     let i = c.loop-i.i in
@@ -50,17 +50,10 @@ overflow_add-low c =
     let t = get_or ts i blank in
     let h = c.loop-i-test.true in
     let k = coefficient_at_lem (length b) ts i h c.requires.terms in
-    let e = product_on b t k (place_at (length b) ts i h c.requires.terms) least_product_of c.index-board-t.result c.least_product-low.result c.index-board-t.is c.least_product-low.ensures in
+    let e = product_on b t k (place_at (length b) ts i h c.requires.terms) least_product_of c.index-board-t.result c.products_of-products.result.least c.index-board-t.is c.products_of-products.ensures.least in
     let n = subst (Near 10_000_000_000) (sym e) (least_near t.coefficient _ k) in
     let m = c.loop-i.invariant.2.near in
     omega (arith, ints, n.low, n.high, m.low, m.high, h, c.requires.few)
-
-pub greatest_product-high-requires : goal.greatest_product-high-requires
-greatest_product-high-requires c =
-    let b = c.args.board.now in
-    let ts = c.args.terms.now in
-    let i = c.loop-i.i in
-    requires_back b (get_or ts i blank) (coefficient_at_lem (length b) ts i c.loop-i-test.true c.requires.terms) (place_at (length b) ts i c.loop-i-test.true c.requires.terms)
 
 pub overflow_add-high : goal.overflow_add-high
 overflow_add-high c =
@@ -70,7 +63,7 @@ overflow_add-high c =
     let t = get_or ts i blank in
     let h = c.loop-i-test.true in
     let k = coefficient_at_lem (length b) ts i h c.requires.terms in
-    let e = product_on b t k (place_at (length b) ts i h c.requires.terms) greatest_product_of c.index-board-t.result c.greatest_product-high.result c.index-board-t.is c.greatest_product-high.ensures in
+    let e = product_on b t k (place_at (length b) ts i h c.requires.terms) greatest_product_of c.index-board-t.result c.products_of-products.result.greatest c.index-board-t.is c.products_of-products.ensures.greatest in
     let n = subst (Near 10_000_000_000) (sym e) (greatest_near t.coefficient _ k) in
     let m = c.loop-i.invariant.3.near in
     omega (arith, ints, n.low, n.high, m.low, m.high, h, c.requires.few)
@@ -104,10 +97,10 @@ loop-i-preserved c =
       | else-t-place w ↦
           (let away = index_elsewhere c.args.place ts i h w.if-t-place.false in
           let found = w.found-is ∙ sym (cond-false (eqb p c.args.place) (Some i) c.loop-i.found (ne_eqb p c.args.place w.if-t-place.false)) in
-          let x = w.least_product-low.result in
-          let y = w.greatest_product-high.result in
-          let x-is = product_on b t k inside least_product_of c.index-board-t.result x c.index-board-t.is w.least_product-low.ensures in
-          let y-is = product_on b t k inside greatest_product_of c.index-board-t.result y c.index-board-t.is w.greatest_product-high.ensures in
+          let x = w.products_of-products.result.least in
+          let y = w.products_of-products.result.greatest in
+          let x-is = product_on b t k inside least_product_of c.index-board-t.result x c.index-board-t.is w.products_of-products.ensures.least in
+          let y-is = product_on b t k inside greatest_product_of c.index-board-t.result y c.index-board-t.is w.products_of-products.ensures.greatest in
           let n = subst (Near 10_000_000_000) (sym x-is) (least_near t.coefficient _ k) in
           let m = subst (Near 10_000_000_000) (sym y-is) (greatest_near t.coefficient _ k) in (
             some,
@@ -117,26 +110,27 @@ loop-i-preserved c =
           ))
     ]
 
-pub returns-in-Some : goal.returns-in-Some
-unfolding low high
-returns-in-Some c =
-    let b = c.args.board.now in
-    let ts = c.args.terms.now in
-    let i = c.loop-i.i in
-    let h = c.loop-i-test.false in
-    let j = c.in-Some.asked in
-    let inv = c.loop-i.invariant in
-    let r = index_left ts b c.args.place i c.loop-i.found h inv.0 inv.1 in
-    let there : index_in ts c.args.place ≡ j = ap (index_or (length ts)) (r.0 ∙ c.in-Some.is) in
-    let x = adding_all (least_on b) (index_in ts c.args.place) ts i _ inv.2 h ∙ ap (λ (k : ℕ). low ts k b) there in
-    let y = adding_all (greatest_on b) (index_in ts c.args.place) ts i _ inv.3 h ∙ ap (λ (k : ℕ). high ts k b) there in
-    let made : ℤ → ℤ → Option Others = λ x y. Some (record { asked = j; low = x; high = y }) in
-    ap₂ made x y ∙ ap (passed ts b) (sym (r.1 ∙ c.in-Some.is))
-
-pub returns-in-None : goal.returns-in-None
-returns-in-None c =
+pub returns-in_err-asked : goal.returns-in_err-asked
+returns-in_err-asked c =
     let b = c.args.board.now in
     let ts = c.args.terms.now in
     let inv = c.loop-i.invariant in
     let r = index_left ts b c.args.place c.loop-i.i c.loop-i.found c.loop-i-test.false inv.0 inv.1 in
-    ap (passed ts b) (sym (r.1 ∙ c.in-None.is))
+    c.from_residual.ensures ∙ ap (passed ts b) (sym (r.1 ∙ c.in_err-asked.was))
+
+pub returns : goal.returns
+unfolding low high
+returns c =
+    let b = c.args.board.now in
+    let ts = c.args.terms.now in
+    let i = c.loop-i.i in
+    let h = c.loop-i-test.false in
+    let j = c.in_ok-asked.asked in
+    let found : c.loop-i.found ≡ Some j = c.in_ok-asked.was in
+    let inv = c.loop-i.invariant in
+    let r = index_left ts b c.args.place i c.loop-i.found h inv.0 inv.1 in
+    let there : index_in ts c.args.place ≡ j = ap (index_or (length ts)) (r.0 ∙ found) in
+    let x = adding_all (least_on b) (index_in ts c.args.place) ts i _ inv.2 h ∙ ap (λ (k : ℕ). low ts k b) there in
+    let y = adding_all (greatest_on b) (index_in ts c.args.place) ts i _ inv.3 h ∙ ap (λ (k : ℕ). high ts k b) there in
+    let made : ℤ → ℤ → Option Others = λ x y. Some (record { asked = j; low = x; high = y }) in
+    ap₂ made x y ∙ ap (passed ts b) (sym (r.1 ∙ found))
