@@ -1,34 +1,14 @@
 -- What the books and boards of sheets mean. Assumes nothing.
-use Rattle.std.specs.Prelude.{◌≡◌, ℕ, ◌<◌, ◌≤◌, Bool, false, not, ◌&&◌, ◌||◌, List, [], ◌∷◌, map, length, get_or, drop, ℤ, pos, slice_index_or}
+use Rattle.std.specs.Prelude.{◌≡◌, ℕ, ◌<◌, ◌≤◌, List, map, length, get_or, drop, ℤ, slice_index_or}
 use Rattle.spans.specs.Kind.{Kind}
-use Rattle.books.specs.Boards.{span_at, number_at}
+use Rattle.books.specs.Boards.{span_at}
 use Rattle.books.specs.Meaning.{Meaning}
-use Rattle.rules.specs.ChoiceRules.{same_number}
-use Rattle.rules.specs.SumTerms.{place_of}
-use Rattle.rules.specs.Sums.{sum_of, stands}
 use Rattle.sheets.specs.declared.title.SpanKind.{SpanKind}
 use Rattle.records.specs.Places.{Place}
-use Rattle.records.specs.Rules as rules
-use Rattle.records.specs.Rules.{Rule, Row, sum, pair, apart}
+use Rattle.records.specs.Rules.{Rule, Row, apart}
+use Rattle.records.specs.Meanings.{scope_of, obeys_rule}
 use Rattle.records.specs.RuleLines.{opens}
 use Rattle.readings.specs.Laws.{row_for}
-
--- the places of a rule, in the order of their names on its line
-abbrev pub scope_of : Rule → List ℕ
-scope_of (sum relation bound terms) = map place_of terms
-scope_of (pair first second pairs) = first ∷ second ∷ []
-scope_of (apart first second) = first ∷ second ∷ []
-
--- the two numbers are the tokens of one of the pairs
-abbrev pub listed : ℤ → ℤ → List rules.Tokens → Bool
-listed x y [] = false
-listed x y (t ∷ ts) = (same_number x (pos t.first) && same_number y (pos t.second)) || listed x y ts
-
--- which holdings obey a rule: the total of a sum stands in its relation to the bound; the tokens at two places are a listed pair; or they differ
-abbrev pub obeys_rule : Rule → List ℤ → Bool
-obeys_rule (sum relation bound terms) h = stands relation (sum_of terms h) bound
-obeys_rule (pair first second pairs) h = listed (number_at h first) (number_at h second) pairs
-obeys_rule (apart first second) h = not (same_number (number_at h first) (number_at h second))
 
 -- a book means these rules over so many places
 pub record Means {S : Type 0} (meaning : Meaning S) (places : ℕ) (rs : List Rule) : Type 0 where

@@ -12,6 +12,6 @@ pub mod sheet;
 mod walk;
 
 pub use calls::{read_expansion, read_game};
-pub use meaning::{choice_book, sum_book, write_board};
+pub use meaning::{book, write_board};
 pub use rule_lines::rule_line;
 pub use sheet::{Refused, Sheet};

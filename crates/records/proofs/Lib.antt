@@ -4,3 +4,4 @@ pub mod Taking
 pub mod Going
 pub mod Summing
 pub mod Pairing
+pub mod Meaning

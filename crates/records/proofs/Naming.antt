@@ -1,8 +1,8 @@
 -- Places looked up by name. Assumes nothing.
-use Rattle.std.proofs.Common.{refl, [], ◌∷◌, cond, ◌||◌, ◌≡◌, ℕ, ◌+◌, ◌-◌, ◌<◌, ◌≤◌, min, true, false, ◌⊎◌, List, map, length, get_or, take, drop, Some, sym, ap, ◌∙◌, ⊎_elim, arith}
+use Rattle.std.proofs.Common.{refl, [], ◌∷◌, cond, ◌||◌, ◌≡◌, ℕ, ◌+◌, ◌-◌, ◌<◌, ◌≤◌, min, ◌⊎◌, List, map, length, take, Some, sym, ap, ◌∙◌, ⊎_elim, arith}
 use native.Mathlib.Nat.{sub-zero}
-use Rattle.std.proofs.lemmas.List.{at_drop_more, take-map, take_all}
-use Rattle.std.proofs.lemmas.Bool.{cond-true, cond-false, cases_lt}
+use Rattle.std.proofs.lemmas.List.{take-map, take_all}
+use Rattle.std.proofs.lemmas.Bool.{cases_lt}
 use Rattle.std.specs.List.{list_any, position_from}
 use Rattle.text.specs.Names.{same_name}
 use Rattle.records.specs.declared.places.PlaceRow.{PlaceRow}

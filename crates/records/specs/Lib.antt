@@ -10,3 +10,4 @@ pub mod Rules
 pub mod Sums
 pub mod Between
 pub mod RuleLines
+pub mod Meanings

@@ -5,6 +5,7 @@ ghost use Rattle.sheets.specs.declared.title.SpanKind.TheVariants.{Amounts, Choi
 ghost use Rattle.text.specs.Fields.{fields_of};
 ghost use Rattle.records.specs.Names.{named};
 ghost use Rattle.records.specs.Rules.{Row};
+ghost use Rattle.records.specs.Meanings.{Meant};
 ghost use Rattle.records.specs.Sums.{sum_shown};
 ghost use Rattle.records.specs.Between.{choice_shown};
 ghost use Rattle.records.specs.RuleLines.{sum_line_of, pair_line_of, apart_line_of, rule_line_of, shown_rule, opens};
@@ -15,20 +16,22 @@ use crate::record::{Record, Word, line_word, word_record};
 use crate::sums::read_sum;
 use crate::two::{read_apart, read_pair};
 use rules::choices::ChoiceRow;
+use rules::rows;
 use rules::sums::SumRow;
 use sheets::{SheetFault, SpanKind};
-use spans::{Amount, Choice, Span};
+use spans::{Amount, Choice};
 
 // A row of a table that the rule lines of one kind of sheet fill.
-pub trait RuleRow: Copy {
-    // the spans that the rules of the sheet are over
-    type Span: Span;
-
+pub trait RuleRow: rows::Row {
     // the kind of sheet
     ghost sheets: { SpanKind };
 
     // the rule that a row holds
     ghost holds: { Self → Row };
+
+    // Does nothing. Its contract is that each row is for the boards of the rule that it holds, and means that rule.
+    fn means()
+        ensures { (row : Self) → Meant (Self.boards row) (Self.rule row) (holds row) };
 
     // The kind of span that the sheet speaks of.
     fn kind() -> SpanKind
@@ -91,11 +94,11 @@ fn sum_line(names: Names, bytes: &[u8], line: usize) -> Result<SumRow, SheetFaul
 }
 
 impl RuleRow for SumRow {
-    type Span = Amount;
-
     ghost sheets = { Amounts };
 
     ghost holds = { sum_shown };
+
+    fn means() {}
 
     fn kind() -> SpanKind {
         SpanKind::Amounts
@@ -117,11 +120,11 @@ impl RuleRow for SumRow {
 }
 
 impl RuleRow for ChoiceRow {
-    type Span = Choice;
-
     ghost sheets = { Choices };
 
     ghost holds = { choice_shown };
+
+    fn means() {}
 
     fn kind() -> SpanKind {
         SpanKind::Choices

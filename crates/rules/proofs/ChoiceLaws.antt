@@ -1,5 +1,5 @@
 -- Rules over choices keep the laws, and settled boards are arc consistent. Assumes nothing.
-use Rattle.std.proofs.Common.{◌≡◌, ℕ, ◌<◌, Bool, true, false, not, ◌&&◌, T, eqb, ltb, leb, subst, ltb→lt}
+use Rattle.std.proofs.Common.{length, ◌≡◌, ℕ, ◌<◌, Bool, true, false, not, ◌&&◌, T, eqb, ltb, leb, subst, ltb→lt}
 use lib.Dec.{eqb_refl}
 use Rattle.spans.specs.Bools.{both}
 use Rattle.spans.specs.ChoiceKind.{choices}
@@ -7,7 +7,7 @@ use Rattle.books.specs.Meaning.{Sound}
 use Rattle.rules.specs.declared.choices.row.ChoiceRow.{ChoiceRow}
 use Rattle.rules.specs.declared.choices.row.ChoiceRow.TheVariants.{Pair, Apart}
 use Rattle.rules.specs.ChoiceTests.{two_places_test}
-use Rattle.rules.specs.ChoiceRows.{places_of}
+use Rattle.rules.specs.ChoiceRows.{pairs_of, places_of}
 use Rattle.rules.specs.ChoiceRules.{link_of}
 use Rattle.rules.specs.ChoiceBooks.{rule_of}
 use Rattle.rules.specs.ArcConsistency.{ArcLaw}
@@ -34,7 +34,8 @@ two_places_lem places first second t =
 pub row_places : (row : ChoiceRow) → TwoPlaces (places_of row) (link_of row).first (link_of row).second
 row_places (Pair row) =
     let two = two_places_test row.places row.first row.second in
-    two_places_lem row.places row.first row.second (both two (ltb 0 row.count) (both (two && ltb 0 row.count) (leb row.count 100) row.ok).0).0
+    let count = length (pairs_of row) in
+    two_places_lem row.places row.first row.second (both two (ltb 0 count) (both (two && ltb 0 count) (leb count 100) row.ok).0).0
 row_places (Apart row) = two_places_lem row.places row.first row.second row.ok
 
 -- each row keeps the laws of rules on the boards that it is for

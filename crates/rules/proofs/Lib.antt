@@ -1,7 +1,6 @@
 pub mod Working
 pub mod Keeping
 pub mod Joining
-pub mod Filling
 pub mod Links
 pub mod Partners
 pub mod RowLaws

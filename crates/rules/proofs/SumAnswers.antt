@@ -1,5 +1,5 @@
 -- How the answer of a sum is computed. Assumes nothing.
-use Rattle.std.proofs.Common.{◌≡◌, ℕ, zero, suc, ◌*◌, ◌<◌, ◌≤◌, ◌&&◌, T, leb, List, [], ◌∷◌, length, get_or, ℤ, pos, ◌-ℤ◌, neg_ℤ, ◌≤ℤ◌, Some, None, Option, sym, refl, ap, ◌∙◌, subst, ap₂, inl, inr, arith, leb→le, w32, w64, SFits, to_z, of_z}
+use Rattle.std.proofs.Common.{◌≡◌, ℕ, zero, suc, ◌*◌, ◌<◌, ◌≤◌, ◌&&◌, T, leb, List, [], ◌∷◌, length, get_or, ℤ, pos, ◌-ℤ◌, neg_ℤ, ◌≤ℤ◌, Some, None, Option, sym, refl, ap, ◌∙◌, subst, ap₂, inl, inr, arith, w32, w64, SFits, to_z, of_z}
 use lib.Signed.{le_z, le_z_yes}
 use Rattle.std.proofs.lemmas.List.{get_or_default}
 use Rattle.std.proofs.lemmas.Int.{ints}
@@ -23,10 +23,7 @@ use Rattle.rules.proofs.SumIndexes.{sum_fair, asked_within}
 
 -- what a row holds
 pub row_sum : (row : SumRow) → T (sum_test row.places row.bound (terms_of row))
-row_sum row = (both (leb row.count 16) (sum_test row.places row.bound (terms_of row)) row.ok).1
-
-pub row_count : (row : SumRow) → row.count ≤ 16
-row_count row = leb→le row.count 16 (both (leb row.count 16) (sum_test row.places row.bound (terms_of row)) row.ok).0
+row_sum row = row.ok
 
 pub sum_bound : (places : ℕ) (bound : ℤ) (ts : List Term) → T (sum_test places bound ts) → T (bound_test bound)
 sum_bound places bound ts t =

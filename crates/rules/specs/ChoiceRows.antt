@@ -1,5 +1,6 @@
 -- The rows of a table of rules over choices. Assumes nothing.
-use Rattle.std.specs.Prelude.{◌≡◌, ℕ, true, false, List, length, take, Some, None, Option}
+use Rattle.std.specs.Prelude.{◌≡◌, ℕ, true, false, List, length, Some, None, Option}
+use Rattle.rules.specs.Fews.{listed}
 use Rattle.rules.specs.declared.choices.token.TokenPair.{TokenPair}
 use Rattle.rules.specs.declared.choices.pair.PairRow.{PairRow}
 use Rattle.rules.specs.declared.choices.apart.ApartRow.{ApartRow}
@@ -9,7 +10,7 @@ use Rattle.rules.specs.ChoiceTests.{are_tokens, two_places_test, is_pair_row}
 
 -- the pairs that a row lists
 abbrev pub pairs_of : PairRow → List TokenPair
-pairs_of row = take row.count row.pairs
+pairs_of row = listed row.pairs
 
 -- how many places the boards have that a row is for
 abbrev pub places_of : ChoiceRow → ℕ

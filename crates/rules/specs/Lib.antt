@@ -1,3 +1,4 @@
+pub mod Fews
 pub mod Worked
 pub mod ChoiceTests
 pub mod Sides

@@ -1,5 +1,5 @@
 -- Positions worked through by hand, and what plain sweeps come to on them. Assumes nothing.
-use Rattle.std.specs.Prelude.{◌≡◌, ℕ, List, [], ◌∷◌, replicate, ℤ, pos, negsuc, slice_set}
+use Rattle.std.specs.Prelude.{◌≡◌, ℕ, List, [], ◌∷◌, replicate, ℤ, pos, negsuc, slice_set, refl}
 use Rattle.spans.specs.Amounts.{amount_from, amount_meet}
 use Rattle.spans.specs.AmountKind.{amounts}
 use Rattle.spans.specs.ChoiceKind.{choices}
@@ -34,15 +34,15 @@ term coefficient place = record { coefficient = coefficient; place = place }
 
 -- 3X - 4Y = 0
 abbrev pub three_four : Meaning Amount
-three_four = sum_book_of 2 (record { places = 2; relation = Equal; bound = pos 0; count = 2; terms = padded (term (pos 3) 0 ∷ term (negsuc 3) 1 ∷ []); ok = tt } ∷ [])
+three_four = sum_book_of 2 (record { places = 2; relation = Equal; bound = pos 0; terms = record { count = 2; held = padded (term (pos 3) 0 ∷ term (negsuc 3) 1 ∷ []); within = refl }; ok = tt } ∷ [])
 
 -- 2A <= -7
 abbrev pub twice : Meaning Amount
-twice = sum_book_of 1 (record { places = 1; relation = AtMost; bound = negsuc 6; count = 1; terms = padded (term (pos 2) 0 ∷ []); ok = tt } ∷ [])
+twice = sum_book_of 1 (record { places = 1; relation = AtMost; bound = negsuc 6; terms = record { count = 1; held = padded (term (pos 2) 0 ∷ []); within = refl }; ok = tt } ∷ [])
 
 -- 2A + 2B + 2C = 3
 abbrev pub three_twos : Meaning Amount
-three_twos = sum_book_of 3 (record { places = 3; relation = Equal; bound = pos 3; count = 3; terms = padded (term (pos 2) 0 ∷ term (pos 2) 1 ∷ term (pos 2) 2 ∷ []); ok = tt } ∷ [])
+three_twos = sum_book_of 3 (record { places = 3; relation = Equal; bound = pos 3; terms = record { count = 3; held = padded (term (pos 2) 0 ∷ term (pos 2) 1 ∷ term (pos 2) 2 ∷ []); within = refl }; ok = tt } ∷ [])
 
 -- the amount from one natural number to another
 abbrev pub up_to : ℕ → ℕ → Amount
@@ -74,7 +74,7 @@ tokens012 = record { mask = 7; ok = tt }
 abbrev pub two_pairs : Meaning Choice
 two_pairs =
     let pairs : List TokenPair = record { first = 0; second = 1; ok = tt } ∷ record { first = 1; second = 2; ok = tt } ∷ replicate 98 (record { first = 0; second = 0; ok = tt }) in
-    choice_book_of 2 (Pair (record { places = 2; first = 0; second = 1; count = 2; pairs = pairs; ok = tt }) ∷ [])
+    choice_book_of 2 (Pair (record { places = 2; first = 0; second = 1; pairs = record { count = 2; held = pairs; within = refl }; ok = tt }) ∷ [])
 
 -- three places, each two of them apart: rules 0, 1 and 2
 abbrev pub all_apart : Meaning Choice

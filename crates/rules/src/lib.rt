@@ -2,6 +2,7 @@
 #![tactic(auto)]
 
 pub mod choices;
+pub mod few;
 pub mod rows;
 pub mod sums;
 pub mod worked;

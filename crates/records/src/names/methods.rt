@@ -33,7 +33,10 @@ impl<'n, 's> Names<'n, 's> {
     pub fn position(self, name: &[u8]) -> Option<Place>
         ensures { result ≡ position_after 0 (named self.entry) name.now }
     {
-        let i = self.places.iter().position(|place| same_name(place.name, name))?;
+        let i = self
+            .places
+            .iter()
+            .position(|place| same_name(place.name, name))?;
         Some(i as Place)
     }
 

@@ -1,7 +1,9 @@
-ghost use Rattle.std.specs.Prelude.{T};
+ghost use Rattle.std.specs.Prelude.{T, length};
+ghost use Rattle.rules.specs.Fews.{listed};
 ghost use Rattle.rules.specs.ChoiceTests.{is_pair_row};
 
 use super::token::TokenPair;
+use crate::few::Few;
 use books::Place;
 
 mod methods;
@@ -10,13 +12,12 @@ mod methods;
 pub const MOST_PAIRS: usize = 100;
 
 // A rule that lists the pairs of tokens that its two places may have. It is for boards of so many places, and has 1 to 100
-// pairs: the first `count` of those held here.
+// pairs.
 #[derive(Clone, Copy)]
 pub struct PairRow {
     pub places: Place,
     pub first: Place,
     pub second: Place,
-    pub count: u8,
-    pub pairs: [TokenPair; MOST_PAIRS],
-    ghost ok: { T (is_pair_row places first second count) },
+    pub pairs: Few<TokenPair, MOST_PAIRS>,
+    ghost ok: { T (is_pair_row places first second (length (listed pairs))) },
 }

@@ -4,11 +4,12 @@ ghost use Rattle.rules.specs.TokenSets.{keeping};
 ghost use Rattle.rules.specs.ChoiceRows.{PairAsked, pairs_of};
 ghost use Rattle.rules.specs.ChoiceRules.{joins, some_pair};
 
-use super::{MOST_PAIRS, PairRow};
+use super::PairRow;
 use crate::choices::apart::are_two_places;
 use crate::choices::side::Side;
 use crate::choices::token::TokenPair;
 use crate::choices::tokens::has_token;
+use crate::few::Few;
 use books::Place;
 use spans::{Choice, Span};
 
@@ -31,22 +32,14 @@ impl PairRow {
     pub fn new(places: Place, first: Place, second: Place, pairs: &[TokenPair]) -> Option<PairRow>
         ensures { PairAsked places first second pairs.now result }
     {
-        if !are_two_places(places, first, second) || pairs.len() == 0 || pairs.len() > MOST_PAIRS {
+        if !are_two_places(places, first, second) || pairs.is_empty() {
             return None;
-        }
-        let mut held = [TokenPair {
-            first: 0,
-            second: 0,
-        }; MOST_PAIRS];
-        for (i, pair) in pairs.iter().enumerate() {
-            held[i] = *pair;
         }
         Some(PairRow {
             places,
             first,
             second,
-            count: pairs.len() as u8,
-            pairs: held,
+            pairs: Few::from_slice(pairs, pairs[0])?,
         })
     }
 
@@ -56,6 +49,6 @@ impl PairRow {
         ensures value { result ≡ keeping span (λ t. some_pair (joins side other t) (pairs_of self.now)) }
         ensures admits { (t : ℕ) → choice_admits result (pos t) ≡ (choice_admits span (pos t) && some_pair (joins side other t) (pairs_of self.now)) }
     {
-        span.common(joined(&self.pairs[0..self.count as usize], side, other))
+        span.common(joined(self.pairs.as_slice(), side, other))
     }
 }

@@ -1,11 +1,12 @@
 // How the rows of sums are made and read.
 ghost use Rattle.std.specs.Prelude.{◌≡◌, ◌≤◌, length};
 ghost use Rattle.rules.specs.SumTerms.{bound_test, term_test, sum_test, terms_test};
-ghost use Rattle.rules.specs.SumRows.{Made, boards_of, padded, terms_of, uses};
+ghost use Rattle.rules.specs.SumRows.{Made, boards_of, terms_of, uses};
 ghost use Rattle.rules.specs.SumBooks.{rule_of};
 ghost use Rattle.rules.specs.SumConsistency.{BoundsConsistent};
 
 use super::{MOST_TERMS, SumRow};
+use crate::few::Few;
 use crate::rows::Row;
 use crate::sums::answers::sum_answer;
 use crate::sums::term::{Relation, Term};
@@ -63,16 +64,6 @@ fn is_sum(places: Place, bound: i64, terms: &[Term]) -> bool
     is_bound(bound) && (1..=MOST_TERMS).contains(&terms.len()) && are_terms(places, terms)
 }
 
-// The terms, and blank entries up to 16.
-fn pad(terms: &[Term]) -> [Term; MOST_TERMS]
-    requires { length terms.now ≤ 16 }
-    ensures { result ≡ padded terms.now }
-{
-    let mut held = [BLANK; MOST_TERMS];
-    held[0..terms.len()].copy_from_slice(terms);
-    held
-}
-
 impl SumRow {
     // The sum of these terms, on boards of so many places; none where these are no sum.
     pub fn new(places: Place, relation: Relation, bound: i64, terms: &[Term]) -> Option<SumRow>
@@ -85,8 +76,7 @@ impl SumRow {
             places,
             relation,
             bound,
-            count: terms.len() as u8,
-            terms: pad(terms),
+            terms: Few::from_slice(terms, BLANK)?,
         })
     }
 
@@ -108,7 +98,7 @@ impl SumRow {
     pub fn terms(&self) -> &[Term]
         ensures { result.now ≡ terms_of self.now }
     {
-        &self.terms[0..self.count as usize]
+        self.terms.as_slice()
     }
 }
 

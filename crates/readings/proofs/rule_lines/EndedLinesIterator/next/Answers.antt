@@ -1,4 +1,4 @@
-use Rattle.std.proofs.Common.{◌≡◌, [], ◌∷◌, List, ℕ, sym, ap, ◌∙◌, rules}
+use Rattle.std.proofs.Common.{◌≡◌, ◌∷◌, List, ℕ, sym, ap, ◌∙◌, rules}
 use Rattle.readings.specs.RuleLines.{ended_lines}
 use Rattle.readings.proofs.Finding.{none_ended, first_ended}
 use Rattle.readings.proofs.rule_lines.EndedLinesIterator.next.Goals as goal
