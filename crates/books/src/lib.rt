@@ -79,7 +79,7 @@ pub trait Book {
         requires { (meaning self.now).rules ≤ length waiting.old }
         ensures { waiting.new ≡ woken (meaning self.now) place waiting.old }
     {
-        // Written by index: of what is written through a zipped or numbered `iter_mut` a proof knows the length alone.
+        // Over the numbers that the book is asked: a walk over the list would cast each index back to one.
         for rule in 0..self.rules() {
             if self.has_place(rule, place) {
                 waiting[rule as usize] = 1;

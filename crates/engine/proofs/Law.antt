@@ -9,6 +9,7 @@ use Rattle.engine.specs.declared.refusal.Refusal.{Refusal}
 use Rattle.engine.specs.declared.refusal.Refusal.TheVariants.{NoSuchPlace, KeepFull}
 use Rattle.engine.specs.Limits.{Limit, cut}
 use Rattle.engine.specs.Calls.{Memory, State, Reply, refuse, shown, Verdict, denied, allowed, limit_verdict, replied, open_reply, limit_reply, mark_reply, back_to, back_reply, check_answer, written, finish_list}
+use Rattle.engine.specs.Lent.{verdict_answer}
 use Rattle.engine.specs.History.{Granted, Refused, Move, Force, Story, history, handed, room_for, top_of, Fair, Told, SameNumbers, Alike, HistoryLaw}
 use Rattle.engine.proofs.Boards.{inside_same}
 use Rattle.engine.proofs.Cuts.{cut_length, cut_means, on_cut, cut_on, cut_limited}
@@ -16,19 +17,13 @@ use Rattle.engine.proofs.Verdicts.{GoodVerdict, limit_good}
 use Rattle.engine.proofs.Histories.{at_book, Kept, Inner, Keeps, kept_count, stands_long, holds_true, limit_by, plain_story, opens, opening_enough, handed_long, history_keeps}
 use Rattle.engine.proofs.Finishing.{lowest_admitted, written_length, written_at, check_shows, settled_obeys}
 
--- the answer by a verdict
-verdict_answer_lem : {S : Type 0} → Verdict S → Result ℕ Refusal
-verdict_answer_lem (denied refusal) = Err refusal
-verdict_answer_lem (allowed b strikes) = Ok strikes
-
-replied_answer : {S : Type 0} (st : State S) (v : Verdict S) → (replied st v).answer ≡ verdict_answer_lem v
-unfolding verdict_answer_lem
+replied_answer : {S : Type 0} (st : State S) (v : Verdict S) → (replied st v).answer ≡ verdict_answer v
 replied_answer st (denied refusal) = refl
 replied_answer st (allowed b strikes) = refl
 
 -- the answer to a limit where the counts are the book's and the memory is enough: it depends on the board alone
 limit_told : {S : Type 0} → Kind S → Meaning S → Limit S → List S → Result ℕ Refusal
-limit_told kind book l board = cond (ltb l.place book.places) (verdict_answer_lem (limit_verdict kind book l board)) (Err (NoSuchPlace l.place))
+limit_told kind book l board = cond (ltb l.place book.places) (verdict_answer (limit_verdict kind book l board)) (Err (NoSuchPlace l.place))
 
 module _ {S : Type 0} (kind : Kind S) (book : Meaning S) (law : Lawful kind book) where
   module _ (o : List S) (spans : ℕ) (long : length o ≡ book.places) (marks : ℕ) (m : Memory S) (f : Force S) (h : Inner kind book o spans marks m f) where
@@ -126,7 +121,7 @@ module _ {S : Type 0} (kind : Kind S) (book : Meaning S) (law : Lawful kind book
     unfolding st shown board limit_told
     limit_answer l = rw (limit_by kind book o spans l marks m f h) (go (ltb l.place book.places))
       where
-        go : (e : Bool) → (cond e (replied st (limit_verdict kind book l board)) (refuse (NoSuchPlace l.place) st)).answer ≡ cond e (verdict_answer_lem (limit_verdict kind book l board)) (Err (NoSuchPlace l.place))
+        go : (e : Bool) → (cond e (replied st (limit_verdict kind book l board)) (refuse (NoSuchPlace l.place) st)).answer ≡ cond e (verdict_answer (limit_verdict kind book l board)) (Err (NoSuchPlace l.place))
         go true = replied_answer st (limit_verdict kind book l board)
         go false = refl
 

@@ -16,4 +16,3 @@ pub mod Calling
 pub mod Openings
 pub mod Limiting
 pub mod Writing
-pub mod Keeping

@@ -1,5 +1,5 @@
 -- The ways out of opening, in what the code holds. Assumes nothing.
-use Rattle.std.proofs.Common.{◌≡◌, ℕ, ◌-◌, ◌≤◌, List, ◌++◌, length, take, drop, replicate, Ok, Err, Result, sym, ap, ◌∙◌, subst, arith, true, false}
+use Rattle.std.proofs.Common.{◌≡◌, ℕ, ◌-◌, ◌≤◌, List, ◌++◌, length, take, drop, replicate, Ok, Err, Result, sym, ap, ◌∙◌, subst, arith, true}
 use Rattle.std.proofs.lemmas.List.{length-take-le}
 use Rattle.spans.specs.Kind.{Kind}
 use Rattle.books.specs.Boards.{Full}
@@ -11,7 +11,7 @@ use Rattle.engine.specs.declared.position.opening.Opened.{Opened}
 use Rattle.engine.specs.Calls.{Memory, State, Reply, Verdict, denied, judged, shown, open_verdict, enough, fresh, open_reply}
 use Rattle.engine.specs.Lent.{lent, opened, counted, memory_checked, empty_told, verdict_answer, verdict_board}
 use Rattle.engine.proofs.Calling.{put, none_empty, empty_refuses, tried}
-use Rattle.engine.proofs.Exits.{checked_short, checked_enough, enough_long, open_short, open_by, open_settles}
+use Rattle.engine.proofs.Exits.{checked_enough, checked_long, open_by, open_settles}
 
 module _ {S : Type 0} (kind : Kind S) (book : Meaning S) (B W keep : List S) (L : List ℕ) (counts : Counts) (is : counts ≡ counted book) where
   abbrev st : State S
@@ -21,17 +21,12 @@ module _ {S : Type 0} (kind : Kind S) (book : Meaning S) (B W keep : List S) (L 
   abbrev pub front : List S
   front = take (counts.places - 0) B
 
-  pub opening_short : (r : Result Opened Refusal) (e : Refusal) → r ≡ Err e → Err e ≡ memory_checked counts B W L → opened book r (lent B W L keep) ≡ open_reply kind book (lent B W L keep)
-  opening_short r e is-e h =
-      let s = checked_short counts B W L keep e h in
-      rw (is-e, s.1) (sym (open_short kind book (lent B W L keep) (subst (λ (k : Counts). enough k.places k.rules (lent B W L keep) ≡ false) is s.0)))
-
   module _ (ok : Ok tt ≡ memory_checked counts B W L) where
     fits : enough book.places book.rules (lent B W L keep) ≡ true
     fits = subst (λ (k : Counts). enough k.places k.rules (lent B W L keep) ≡ true) is (checked_enough counts B W L keep ok)
 
     long : (book.places ≤ length B) × (book.places ≤ length W) × (book.rules ≤ length L)
-    long = enough_long (counted book) B W L keep fits
+    long = checked_long (counted book) B W L (subst (λ (k : Counts). Ok tt ≡ memory_checked k B W L) is ok)
 
     places-are : counts.places - 0 ≡ book.places
     places-are = omega (arith, ap (λ (k : Counts). k.places) is)
@@ -39,7 +34,7 @@ module _ {S : Type 0} (kind : Kind S) (book : Meaning S) (B W keep : List S) (L 
     rules-are : counts.rules - 0 ≡ book.rules
     rules-are = omega (arith, ap (λ (k : Counts). k.rules) is)
 
-    pub opening_full : Ok tt ≡ empty_told kind front → Full kind book.places front
+    opening_full : Ok tt ≡ empty_told kind front → Full kind book.places front
     opening_full h = none_empty kind front book.places (ap (λ (n : ℕ). length (take n B)) places-are ∙ length-take-le book.places B long.0) (sym h)
 
     -- what is left by a verdict

@@ -1,5 +1,6 @@
 -- What is told of each refusal: its number, its place and its rule. Assumes nothing.
-use Rattle.std.specs.Prelude.{ℕ}
+use Rattle.std.specs.Prelude.{ℕ, List, ◌∷◌, ◌++◌}
+use Rattle.std.specs.Fmt.{decimal}
 use Rattle.engine.specs.declared.refusal.Refusal.{Refusal}
 use Rattle.engine.specs.declared.refusal.Refusal.TheVariants.{TooShort, OtherBook, NoSuchPlace, EmptySpan, NothingShared, Emptied, KeepFull, NoMark, NotOneNumber}
 
@@ -37,5 +38,16 @@ refusal_place (NotOneNumber place) = place
 
 -- the rule named
 abbrev pub refusal_rule : Refusal → ℕ
+refusal_rule TooShort = rule_none
+refusal_rule OtherBook = rule_none
+refusal_rule (NoSuchPlace place) = rule_none
+refusal_rule (EmptySpan place) = rule_none
+refusal_rule (NothingShared place) = rule_none
 refusal_rule (Emptied place rule) = rule
-refusal_rule _ = rule_none
+refusal_rule KeepFull = rule_none
+refusal_rule NoMark = rule_none
+refusal_rule (NotOneNumber place) = rule_none
+
+-- a refusal is written as its number, its place and its rule, with tabs between
+abbrev pub refusal_text : Refusal → List ℕ
+refusal_text refusal = decimal (refusal_number refusal) ++ 9 ∷ decimal (refusal_place refusal) ++ 9 ∷ decimal (refusal_rule refusal)

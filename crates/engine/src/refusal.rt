@@ -1,8 +1,9 @@
 // Why a call on a position is refused.
-ghost use Rattle.std.specs.Prelude.{◌≡◌};
-ghost use Rattle.engine.specs.Refusals.{refusal_number, refusal_place, refusal_rule};
+ghost use Rattle.std.specs.Prelude.{◌≡◌, Some};
+ghost use Rattle.engine.specs.Refusals.{refusal_number, refusal_place, refusal_rule, refusal_text};
 
 use books::{NO_PLACE, NO_RULE, Place, RuleNumber};
+use std::fmt;
 
 // A refusal has a number, and may name a place and a rule.
 #[derive(Clone, Copy, PartialEq, Eq, Debug)]
@@ -67,5 +68,14 @@ impl Refusal {
             Refusal::Emptied { rule, .. } => rule,
             _ => NO_RULE,
         }
+    }
+}
+
+// Its number, place and rule, with tabs between.
+impl fmt::Display for Refusal {
+    ghost output = { λ refusal. Some (refusal_text refusal) };
+
+    fn fmt<W: fmt::Write>(&self, f: &mut fmt::Formatter<W>) -> fmt::Result {
+        write!(f, "{}\t{}\t{}", self.number(), self.place(), self.rule())
     }
 }

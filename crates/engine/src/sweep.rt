@@ -20,6 +20,7 @@ pub(crate) struct EmptiedBy {
 
 // One sweep over the rules that wait, by rising number, each rule's places in its order. It goes on from so many strikes.
 // A rule waits no more when its visit begins; a strike makes every rule of its place wait.
+// Loops and no chain: a strike changes the board and the waiting list that the next visit reads.
 pub(crate) fn sweep<B: Book>(
     book: &B,
     board: &mut [B::Span],
@@ -61,7 +62,7 @@ pub(crate) fn sweep<B: Book>(
     }
 }
 
-// Sweeps until one has no strike; every rule waits at first.
+// Sweeps until one has no strike; every rule waits at first. The list is of bytes and no flags, since the game hands in bytes.
 pub(crate) fn settle<B: Book>(
     book: &B,
     board: &mut [B::Span],

@@ -1,19 +1,9 @@
 // Positions of amounts under sums.
-use crate::saying::{print_answer, print_refusal, print_strikes};
+use crate::saying::{print_answer, print_refusal, print_row, print_strikes};
 use engine::{Position, back, check_finish, finish, limit, mark, opening};
 use rules::sums::{Relation, SumBook, SumRow, Term};
 use spans::Amount;
 use std::io;
-
-// The spans of a board, floor and ceiling.
-fn print_board(rt: &HostRuntime, board: &[Amount]) -> io::Result<()> {
-    for span in board.iter() {
-        let floor = span.floor();
-        let ceiling = span.ceiling();
-        print!(rt; "\t{floor}..{ceiling}")?;
-    }
-    println!(rt; "")
-}
 
 fn term(coefficient: i32, place: u8) -> Term {
     Term { coefficient, place }
@@ -26,20 +16,9 @@ fn open(
     board: &mut [Amount],
     working: &mut [Amount],
 ) -> io::Result<()> {
-    match opening(book, board, working, &mut [0; 1]) {
-        Ok(opened) => print_strikes(rt, "opening", Ok(opened.strikes))?,
-        Err(refusal) => print_refusal(rt, "opening", refusal)?,
-    }
-    print_board(rt, board)
-}
-
-// The numbers of a holding.
-fn print_holding(rt: &HostRuntime, holding: &[i32]) -> io::Result<()> {
-    print!(rt; "holding")?;
-    for number in holding.iter() {
-        print!(rt; "\t{number}")?;
-    }
-    println!(rt; "")
+    let said = opening(book, board, working, &mut [0; 1]);
+    print_strikes(rt, "opening", said.map(|opened| opened.strikes))?;
+    print_row(rt, "", board)
 }
 
 // Limits X in a position of 3X - 4Y = 0, and shows the board.
@@ -54,7 +33,7 @@ fn limit_x(
     let mut waiting = [0; 1];
     let said = limit(position, book, board, &mut working, &mut waiting, 0, span);
     print_strikes(rt, "limit X", said)?;
-    print_board(rt, board)
+    print_row(rt, "", board)
 }
 
 // A limit that leaves one holding, taken back; a limit that a rule refuses; and then the first again, to the end.
@@ -71,14 +50,14 @@ fn marks_and_limits(
     limit_x(rt, &position, book, board, Amount::between(5, 8))?;
     print_answer(rt, "mark", mark(&mut position, board, &mut keep))?;
     print_answer(rt, "back", back(&mut position, board, &keep))?;
-    print_board(rt, board)?;
+    print_row(rt, "", board)?;
     limit_x(rt, &position, book, board, Amount::between(5, 7))?;
     print_answer(rt, "check finish", check_finish(&position, board, &holding))?;
     print_answer(rt, "back", back(&mut position, board, &keep))?;
     limit_x(rt, &position, book, board, Amount::between(5, 8))?;
     print_answer(rt, "check finish", check_finish(&position, board, &holding))?;
     finish(position, board, &mut holding);
-    print_holding(rt, &holding)
+    print_row(rt, "holding", &holding)
 }
 
 // 3X - 4Y = 0, from 0 to 10, and then from 1 to 10 with marks and limits.
@@ -95,7 +74,7 @@ fn three_four(rt: &HostRuntime) -> io::Result<()> {
     match opening(&book, &mut board, &mut working, &mut [0; 1]) {
         Ok(opened) => {
             print_strikes(rt, "opening", Ok(opened.strikes))?;
-            print_board(rt, &board)?;
+            print_row(rt, "", &board)?;
             marks_and_limits(rt, opened.position, &book, &mut board)
         }
         Err(refusal) => print_refusal(rt, "opening", refusal),

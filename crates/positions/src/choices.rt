@@ -1,23 +1,9 @@
 // Positions of choices under pair rules and apart rules.
-use crate::saying::{print_refusal, print_strikes};
+use crate::saying::{print_refusal, print_row, print_strikes};
 use engine::{limit, opening};
 use rules::choices::{ApartRow, ChoiceBook, ChoiceRow, PairRow, TokenPair};
-use spans::{Choice, Span};
+use spans::Choice;
 use std::io;
-
-// The tokens of each place.
-fn print_board(rt: &HostRuntime, board: &[Choice]) -> io::Result<()> {
-    for span in board.iter() {
-        print!(rt; "\t{{")?;
-        for token in 0..64 {
-            if span.admits(token) {
-                print!(rt; " {token}")?;
-            }
-        }
-        print!(rt; " }}")?;
-    }
-    println!(rt; "")
-}
 
 // The pairs (0, 1) and (1, 2), for P and Q.
 fn two_pairs() -> Option<ChoiceRow> {
@@ -44,7 +30,7 @@ fn open_and_limit(
     match opening(book, board, working, &mut waiting) {
         Ok(opened) => {
             print_strikes(rt, "opening", Ok(opened.strikes))?;
-            print_board(rt, board)?;
+            print_row(rt, "", board)?;
             let said = limit(
                 &opened.position,
                 book,
@@ -55,7 +41,7 @@ fn open_and_limit(
                 Choice::only(0),
             );
             print_strikes(rt, "limit P", said)?;
-            print_board(rt, board)
+            print_row(rt, "", board)
         }
         Err(refusal) => print_refusal(rt, "opening", refusal),
     }

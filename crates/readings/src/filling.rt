@@ -21,6 +21,7 @@ pub(crate) fn fill_places<'s>(
 ) -> Result<usize, SheetFault>
     ensures { (rules : ℕ) → PlacesFilled kind rules (map place_shown places.old) lines.old result (map place_shown places.new) lines.new }
 {
+    // Counted: the count is how far the table is filled, which each line is checked against and the caller is told.
     let mut count = 0;
     while let Some(line) = next_place(lines) {
         let place = read_place(kind, &places[0..count], line, lines.read())?;
@@ -43,6 +44,7 @@ pub(crate) fn fill_rules<R: RuleRow>(
     ensures rules { map R.RuleRow.holds rules.new ≡ laid (rules_ahead R.RuleRow.sheets (length rules.old) (named names.entry) lines.old).rules (map R.RuleRow.holds rules.old) }
     ensures read { OnOk result (lines.new.read ≡ (rules_ahead R.RuleRow.sheets (length rules.old) (named names.entry) lines.old).lines) }
 {
+    // Counted, as above.
     let mut count = 0;
     while let Some(line) = next_line(lines)? {
         let rule = R::read(names, line, lines.read())?;

@@ -24,6 +24,7 @@ pub fn write_board<R: RuleRow>(sheet: &Sheet<R>, board: &mut [R::Span])
     ensures { Opened R.Span.Span.kind R.RuleRow.sheets (map place_shown sheet.now.places.now) board.old board.new }
 {
     let places = sheet.places;
+    // By index: of what is written through a zipped `iter_mut` a proof knows the length alone.
     for i in 0..places.len().min(board.len()) {
         board[i] = R::open(places[i].opening);
     }

@@ -33,10 +33,8 @@ fn read_title(asked: SheetKind, kind: SpanKind, lines: &mut Lines) -> Result<(),
     ensures left { lines_left lines.new ≡ lines_after (lines_left lines.old) }
     ensures read { lines.new.read ≡ read_after lines.old.read (lines_left lines.old) }
 {
-    match next_line(lines)? {
-        Some(line) => check_title(asked, kind, line),
-        None => Err(SheetFault::Title),
-    }
+    let line = next_line(lines)?.ok_or(SheetFault::Title)?;
+    check_title(asked, kind, line)
 }
 
 // Fills the tables of a game, and returns how many of their entries it fills.

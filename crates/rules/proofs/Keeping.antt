@@ -1,8 +1,7 @@
 -- What a choice admits that keeps the tokens of another by a test. Assumes nothing.
-use Rattle.std.proofs.Common.{◌≡◌, ℕ, zero, suc, ◌^◌, Bool, true, false, cond, not, ◌&&◌, ◌||◌, T, eqb, ltb, ℤ, pos, negsuc, Some, None, sym, refl, ap, ◌∙◌, subst, ap₂, ⊎_elim, arith, eqb→eq}
+use Rattle.std.proofs.Common.{◌≡◌, ℕ, zero, suc, ◌^◌, Bool, true, false, cond, not, ◌&&◌, ◌||◌, T, eqb, ltb, ℤ, pos, negsuc, sym, refl, ap, ◌∙◌, subst, ap₂, ⊎_elim, arith, eqb→eq}
 use borrow.Author.Differences.{ints}
-use Rattle.std.proofs.lemmas.Bool.{lt-ltb, le-ltb, eq-eqb, ne_eqb, and_left, cond-false, cases_lt, cases_eq}
-use Rattle.spans.specs.Kind.{least_of}
+use Rattle.std.proofs.lemmas.Bool.{lt-ltb, le-ltb, eq-eqb, ne_eqb, and_left, cases_lt, cases_eq}
 use Rattle.spans.specs.Bools.{both, join, alike}
 use Rattle.spans.specs.Masks.{tokens, bit}
 use Rattle.spans.specs.MaskLaws.{bit_above}
@@ -102,7 +101,3 @@ one_strikes r span other k e l f t =
     back h =
         let same = one_number choices other (pos t) (pos k) e (both (eqb (choice_size other) 1) (choice_admits other (pos t)) h).1 least in
         subst T (sym (eq-eqb t k (omega (arith, ints, same)))) tt
-
--- the least token, where there is one
-pub least_told : (span : Choice) (x : ℤ) → choice_size span ≡ 1 → Some x ≡ least_of choices span → x ≡ choice_least span
-least_told span x e f = let some : Some x ≡ Some (choice_least span) = f ∙ cond-false (eqb (choice_size span) 0) None (Some (choice_least span)) (ne_eqb (choice_size span) 0 (λ z. omega arith)) in cc

@@ -1,6 +1,5 @@
 pub mod Working
 pub mod Keeping
-pub mod Joining
 pub mod Links
 pub mod Partners
 pub mod RowLaws

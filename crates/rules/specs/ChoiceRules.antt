@@ -1,5 +1,6 @@
 -- Pair rules and apart rules. Assumes nothing.
-use Rattle.std.specs.Prelude.{ℕ, Bool, false, not, ◌&&◌, ◌||◌, List, [], ◌∷◌, ℤ, pos, negsuc, ◌==◌}
+use Rattle.std.specs.Prelude.{ℕ, Bool, false, not, ◌&&◌, List, ℤ, pos, negsuc, ◌==◌}
+use Rattle.std.specs.List.{list_any}
 use Rattle.spans.specs.Choices.{choice_admits, choice_size}
 use Rattle.spans.specs.declared.choice.Choice.{Choice}
 use Rattle.rules.specs.declared.choices.side.Side.{Side}
@@ -21,8 +22,7 @@ same_number (negsuc m) (negsuc n) = m == n
 
 -- some pair of the list passes the test
 abbrev pub some_pair : (TokenPair → Bool) → List TokenPair → Bool
-some_pair test [] = false
-some_pair test (pair ∷ pairs) = test pair || some_pair test pairs
+some_pair = list_any
 
 -- the two numbers are the tokens of the pair
 abbrev pub is_pair : ℤ → ℤ → TokenPair → Bool

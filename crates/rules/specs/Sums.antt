@@ -1,5 +1,6 @@
 -- What a sum means: which holdings obey it, and what it leaves of a span. Assumes nothing.
-use Rattle.std.specs.Prelude.{ℕ, zero, suc, Bool, true, cond, not, ◌&&◌, List, [], ◌∷◌, map, ℤ, pos, ◌+ℤ◌, ◌-ℤ◌, ◌*ℤ◌, neg_ℤ, Some, None, Option, ◌==◌, int_le, int_lt, slice_index_or}
+use Rattle.std.specs.Prelude.{ℕ, zero, suc, Bool, cond, not, ◌&&◌, List, [], ◌∷◌, map, ℤ, pos, ◌+ℤ◌, ◌-ℤ◌, ◌*ℤ◌, neg_ℤ, Some, None, Option, ◌==◌, int_le, int_lt, slice_index_or}
+use Rattle.std.specs.List.{list_all}
 use Rattle.std.specs.Int.{int_max, int_min, int_div_euclid}
 use Rattle.spans.specs.Amounts.{amount_from, amount_size}
 use Rattle.spans.specs.AmountKind.{amounts}
@@ -93,8 +94,7 @@ index_from n p (t ∷ ts) found = index_from (suc n) p ts (cond (t.place == p) (
 
 -- no place of the terms has an empty span
 abbrev pub all_some : List Term → List Amount → Bool
-all_some [] b = true
-all_some (t ∷ ts) b = not (amount_size (span_at amounts b t.place) == 0) && all_some ts b
+all_some ts b = list_all (λ t. not (amount_size (span_at amounts b t.place) == 0)) ts
 
 -- the index of the term that is asked: there is none at another place, and none where a place of the terms has an empty span
 abbrev pub asked_in : List Term → ℕ → List Amount → Option ℕ

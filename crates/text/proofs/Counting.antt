@@ -1,12 +1,12 @@
 -- A sheet's lines: what a reader's calls come to, and the law of lines.
-use Rattle.std.proofs.Common.{◌≡◌, ℕ, suc, ◌+◌, ◌<◌, ◌≤◌, Bool, true, false, cond, ltb, List, [], ◌∷◌, ◌++◌, length, Some, None, Ok, Err, Option, Result, sym, refl, ap, ◌∙◌, subst, zero-add, arith}
+use Rattle.std.proofs.Common.{◌≡◌, ℕ, ◌+◌, ◌<◌, ◌≤◌, Bool, true, false, cond, ltb, List, [], ◌∷◌, ◌++◌, length, Some, None, Ok, Err, Option, Result, sym, refl, ap, ◌∙◌, subst, arith}
 use Rattle.std.proofs.lemmas.List.{length-append}
 use Rattle.std.proofs.lemmas.Bool.{cond-false, ltb-false, le-ltb}
 use Rattle.std.specs.List.{AllByRecursion}
 use Rattle.text.specs.declared.fault.TextFault.{TextFault}
 use Rattle.text.specs.declared.fault.TextFault.TheVariants.{TooBig, TooLong}
 use Rattle.text.specs.Parts.{cut_at, joined_by, Lacks, Parted}
-use Rattle.text.specs.Lines.{stay, end_step, step_of, line_next, ending, infront, line_then, lines_in, sheet_lines, counted, ended, Lined, LinesLaw}
+use Rattle.text.specs.Lines.{stay, end_step, step_of, line_next, ending, infront, line_then, lines_in, sheet_lines, ended, Lined, LinesLaw}
 use Rattle.text.proofs.Cutting.{cut_joined, cut_lacks, joined_cut, cut_some, parts_law}
 
 -- the lines that are left, by what the next call answers
@@ -38,10 +38,6 @@ abbrev pub total : ℕ → Result (List (List ℕ)) TextFault → Result ℕ Tex
 total read (Ok lines) = Ok (read + length lines)
 total read (Err fault) = Err fault
 
-pub total_none : (r : Result (List (List ℕ)) TextFault) → total 0 r ≡ counted r
-total_none (Ok lines) = ap Ok (zero-add (length lines))
-total_none (Err fault) = refl
-
 pub total_infront : (read : ℕ) (line : List ℕ) (r : Result (List (List ℕ)) TextFault) → total read (infront line r) ≡ total (read + 1) r
 total_infront read line (Ok lines) = ap Ok (omega arith)
 total_infront read line (Err fault) = refl
@@ -64,39 +60,13 @@ next_some read left line e = go (cut_at 10 left) (cut_joined 10 left) e
     go (l ∷ []) j e = absurd (last (ltb 1024 (length l)) l e)
     go (l ∷ (next ∷ more)) j e = more_lines (ltb 1024 (length l)) l (joined_by 10 (next ∷ more)) (omega (arith, ap length j, length-append l (10 ∷ joined_by 10 (next ∷ more)))) e
 
--- nothing handed out, nothing counted
-pub next_none : (read : ℕ) (left : List ℕ) → (line_next read left).answer ≡ Ok None → (line_next read left).read ≡ read
-next_none read left e = go (cut_at 10 left) e
-  where
-    last : (t : Bool) (l : List ℕ) → let s = cond t (stay (Err (TooLong (read + 1))) read left) (end_step read left l) in s.read ≡ read
-    last true l = refl
-    last false [] = refl
-    last false (b ∷ l) = refl
-
-    more_lines : (t : Bool) (l rest : List ℕ) → let s = cond t (stay (Err (TooLong (read + 1))) read left) (record { answer = Ok (Some l); left = rest; read = read + 1 }) in s.answer ≡ Ok None → s.read ≡ read
-    more_lines true l rest e = refl
-    more_lines false l rest e = cc
-
-    go : (parts : List (List ℕ)) → let s = step_of read left parts in s.answer ≡ Ok None → s.read ≡ read
-    go [] e = refl
-    go (l ∷ []) e = last (ltb 1024 (length l)) l
-    go (l ∷ (next ∷ more)) e = more_lines (ltb 1024 (length l)) l (joined_by 10 (next ∷ more)) e
-
--- a call that hands out a line leaves the total as it was; any other tells it
-module _ (read : ℕ) (left : List ℕ) where
-  pub total_some : (line : List ℕ) → (line_next read left).answer ≡ Ok (Some line) → total read (lines_in read (cut_at 10 left)) ≡ total (line_next read left).read (lines_in (line_next read left).read (cut_at 10 (line_next read left).left))
-  total_some line e =
-      ap (total read) (lines_step read left ∙ ap (λ a. by_answer (line_next read left).read a (line_next read left).left) e)
-      ∙ total_infront read line (lines_in (line_next read left).read (cut_at 10 (line_next read left).left))
-      ∙ ap (λ (n : ℕ). total n (lines_in (line_next read left).read (cut_at 10 (line_next read left).left))) (sym (next_some read left line e).0)
-
-  pub total_end : (line_next read left).answer ≡ Ok None → total read (lines_in read (cut_at 10 left)) ≡ Ok (line_next read left).read
-  total_end e =
-      ap (total read) (lines_step read left ∙ ap (λ a. by_answer (line_next read left).read a (line_next read left).left) e)
-      ∙ ap Ok (omega (arith, next_none read left e))
-
-  pub total_fault : (fault : TextFault) → (line_next read left).answer ≡ Err fault → total read (lines_in read (cut_at 10 left)) ≡ Err fault
-  total_fault fault e = ap (total read) (lines_step read left ∙ ap (λ a. by_answer (line_next read left).read a (line_next read left).left) e)
+-- a call that hands out a line leaves the total as it was
+pub total_some : (read : ℕ) (left line : List ℕ) → (line_next read left).answer ≡ Ok (Some line)
+    → total read (lines_in read (cut_at 10 left)) ≡ total (line_next read left).read (lines_in (line_next read left).read (cut_at 10 (line_next read left).left))
+total_some read left line e =
+    let s = line_next read left in
+    ap (total read) (lines_step read left ∙ ap (λ a. by_answer s.read a s.left) e) ∙ total_infront read line (lines_in s.read (cut_at 10 s.left))
+    ∙ ap (λ (n : ℕ). total n (lines_in s.read (cut_at 10 s.left))) (sym (next_some read left line e).0)
 
 -- a line that is not too long
 abbrev FitsALine : List ℕ → Type 0
@@ -127,7 +97,7 @@ lines_parts read (line ∷ parts) lines some e = go (ltb 1024 (length line)) ref
         → cond t (Err (TooLong (read + 1))) (line_then read line ps (lines_in (read + 1) ps)) ≡ Ok lines → Ends (line ∷ ps) lines
     go true h ps f e = cc
     go false h [] f e = end line e
-    go false h (p ∷ ps) f e = more_lines (p ∷ ps) (ltb-false 1024 (length line) h) (lines_in (read + 1) (p ∷ ps)) (λ ls. f ls (λ n. (let z : ◌≡◌ {A = ℕ} (suc (length ps)) 0 = ap length n in omega arith))) e
+    go false h (p ∷ ps) f e = more_lines (p ∷ ps) (ltb-false 1024 (length line) h) (lines_in (read + 1) (p ∷ ps)) (λ ls. f ls (λ n. cc)) e
 
 -- and parts that end so have no fault
 parts_lines : (read : ℕ) (lines : List (List ℕ)) → AllByRecursion FitsALine lines → lines_in read (lines ++ ([] ∷ [])) ≡ Ok lines
@@ -153,8 +123,8 @@ lacks_ended [] h = (tt, tt)
 lacks_ended (line ∷ lines) h = (h.0, lacks_ended lines h.1)
 
 not_empty : (lines : List (List ℕ)) → lines ++ ([] ∷ []) ≡ [] → ⊥
-not_empty [] e = let z : ◌≡◌ {A = ℕ} 1 0 = ap length e in omega arith
-not_empty (line ∷ lines) e = let z : ◌≡◌ {A = ℕ} (suc (length (lines ++ ([] ∷ [])))) 0 = ap length e in omega arith
+not_empty [] e = cc
+not_empty (line ∷ lines) e = cc
 
 pub lines_law : (sheet : List ℕ) → LinesLaw sheet
 lines_law sheet lines = (to, from)
@@ -166,7 +136,7 @@ lines_law sheet lines = (to, from)
         go true h e = cc
         go false h e =
             let s = cut_some 10 sheet in
-            let p = lines_parts 0 (cut_at 10 sheet) lines (λ n. (let z : ◌≡◌ {A = ℕ} (suc (length s.1)) 0 = ap length (sym s.2 ∙ n) in omega arith)) e in
+            let p = lines_parts 0 (cut_at 10 sheet) lines (λ n. cc) e in
             record {
               small = ltb-false 65535 (length sheet) h;
               short = p.1;
@@ -179,7 +149,3 @@ lines_law sheet lines = (to, from)
         let parted : Parted 10 sheet (lines ++ ([] ∷ [])) = record { some = not_empty lines; lack = lacks_ended lines l.plain; join = joined_ended lines ∙ l.join } in
         let e = (parts_law 10 sheet (lines ++ ([] ∷ []))).0 parted in
         cond-false _ _ _ (le-ltb 65535 (length sheet) l.small) ∙ ap (lines_in 0) (sym e) ∙ parts_lines 0 lines l.short
-
--- the lines of a sheet that is not too big
-pub sheet_small : (sheet : List ℕ) → length sheet ≤ 65535 → counted (sheet_lines sheet) ≡ total 0 (lines_in 0 (cut_at 10 sheet))
-sheet_small sheet h = ap counted (cond-false _ _ _ (le-ltb 65535 (length sheet) h)) ∙ sym (total_none (lines_in 0 (cut_at 10 sheet)))

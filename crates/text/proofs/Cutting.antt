@@ -1,5 +1,5 @@
 -- Laws of cutting bytes at a byte.
-use Rattle.std.proofs.Common.{◌≡◌, ℕ, suc, ◌+◌, ◌<◌, ◌≤◌, Bool, true, false, cond, not, eqb, List, [], ◌∷◌, length, take, drop, unwrap_or, sym, refl, ap, ◌∙◌, subst, arith}
+use Rattle.std.proofs.Common.{◌≡◌, ℕ, ◌+◌, ◌<◌, ◌≤◌, Bool, true, false, cond, not, eqb, List, [], ◌∷◌, length, take, drop, unwrap_or, sym, refl, ap, ◌∙◌, subst, arith}
 use Rattle.std.proofs.lemmas.Bool.Decides.{nat_tests}
 use Rattle.std.proofs.lemmas.Bool.{cond-true, cond-false, eq-eqb, ne_eqb, eqb-false}
 use Rattle.std.proofs.lemmas.List.Elements.{All-from_get_or}
@@ -82,7 +82,7 @@ parts_law mark bytes parts = (to, from)
 
     from : parts ≡ cut_at mark bytes → Parted mark bytes parts
     from e = let s = cut_some mark bytes in record {
-      some = λ n. (let z : ◌≡◌ {A = ℕ} (suc (length s.1)) 0 = ap length (sym s.2 ∙ sym e ∙ n) in omega arith);
+      some = λ n. cc;
       lack = subst (AllByRecursion (Lacks mark)) (sym e) (cut_lacks mark bytes);
       join = ap (joined_by mark) e ∙ cut_joined mark bytes;
     }

@@ -1,8 +1,9 @@
 -- Digits, their value, and how a number is spelled.
-use Rattle.std.proofs.Common.{◌≡◌, ℕ, zero, suc, ◌+◌, ◌-◌, ◌*◌, ◌^◌, ◌<◌, ◌≤◌, Bool, true, false, cond, not, ◌&&◌, ◌||◌, eqb, leb, List, [], ◌∷◌, length, get_or, drop, ℤ, pos, negsuc, Some, None, decimal, Option, sym, refl, ap, ◌∙◌, subst, ⊎_elim, mul_assoc, mul_comm, add-mul, pow-suc, add-one, arith, rules}
+use Rattle.std.proofs.Common.{◌≡◌, ℕ, zero, suc, ◌+◌, ◌-◌, ◌*◌, ◌^◌, ◌<◌, ◌≤◌, Bool, true, false, cond, ◌&&◌, eqb, List, [], ◌∷◌, length, get_or, drop, ℤ, pos, negsuc, Some, None, decimal, Option, sym, refl, ap, ◌∙◌, mul_assoc, mul_comm, add-mul, pow-suc, add-one, arith, rules}
 use native.Mathlib.Nat.{pow-le-pow_right}
 use Rattle.std.proofs.lemmas.List.{at_drop_more}
-use Rattle.std.proofs.lemmas.Bool.{cond-true, eq-eqb, le-leb, lt-leb, eqb-true, leb-true, and_parts, and_from, and_left, or_cases, cond_both}
+use Rattle.std.proofs.lemmas.Bool.{cond-true, eqb-true}
+use Rattle.std.proofs.lemmas.Bool.Decides.{nat_tests}
 use Rattle.std.proofs.lemmas.Str.Parse.{IsNumeralModel, numerals_by_weight, digits_value_short}
 use Rattle.std.proofs.lemmas.Fmt.{decimal_digit, decimal-digits_value, digits_decimal, digits_value-decimal, decimal_nonempty, first_decimal, length-decimal-le}
 use Rattle.std.specs.Fmt.{signed_decimal}
@@ -13,23 +14,14 @@ abbrev pub value_after : ℕ → List ℕ → Option ℕ
 value_after n ds = cond (all_digits ds) (Some (n * 10 ^ length ds + decimal_value ds)) None
 
 more_value : (n d v k : ℕ) → (n * 10 + d) * 10 ^ k + v ≡ n * 10 ^ suc k + (d * 10 ^ k + v)
-more_value n d v k =
-    let e : 10 ^ suc k ≡ 10 ^ k * 10 = pow-suc 10 k in
-    let f : (n * 10 + d) * 10 ^ k ≡ n * 10 * 10 ^ k + d * 10 ^ k = add-mul (n * 10) d (10 ^ k) in
-    let g : n * 10 * 10 ^ k ≡ n * (10 * 10 ^ k) = mul_assoc n 10 (10 ^ k) in
-    let h : n * 10 ^ suc k ≡ n * (10 * 10 ^ k) = ap (λ (x : ℕ). n * x) (e ∙ mul_comm (10 ^ k) 10) in
-    omega arith
+more_value n d v k = grind (arith, pow-suc 10 k, add-mul (n * 10) d (10 ^ k), mul_assoc n 10 (10 ^ k), mul_comm (10 ^ k) 10)
 
 own : IsNumeralModel (λ ds. all_digits ds ≡ true) decimal_value
 own = numerals_by_weight (λ ds. all_digits ds ≡ true) (search rules) decimal_value (search rules)
 
 -- what a digit's value tells of its byte
 pub digit_some : (b n : ℕ) → digit_of b ≡ Some n → (is_digit b ≡ true) × (n ≡ b - 48) × (n < 10)
-digit_some b n e = go (is_digit b) refl e
-  where
-    go : (t : Bool) → is_digit b ≡ t → cond t (Some (b - 48)) None ≡ Some n → (t ≡ true) × (n ≡ b - 48) × (n < 10)
-    go true d e = let same : n ≡ b - 48 = cc in (refl, same, omega (arith, leb-true b 57 (and_parts (leb 48 b) (leb b 57) d).1))
-    go false d e = cc
+digit_some b n e = grind (arith, nat_tests)
 
 module _ (xs : List ℕ) (i : ℕ) (h : i < length xs) (n : ℕ) where
   turn : value_after n (drop i xs) ≡ value_after n (get_or xs i 0 ∷ drop (i + 1) xs)
@@ -58,21 +50,11 @@ Prints ds n = (ds ≡ decimal n) × (n < 10 ^ 13)
 
 plain_parts : (ds : List ℕ) → plain_size ds ≡ true → (0 < length ds) × (length ds ≤ 13) × (get_or ds 0 0 ≡ 48 → length ds ≡ 1)
 plain_parts [] e = cc
-plain_parts (d ∷ ds) e =
-    let p = and_parts (leb (length ds) 12) (not (eqb d 48) || eqb (length ds) 0) e in
-    let short : length ds ≤ 12 = leb-true (length ds) 12 p.0 in
-    (omega arith, omega arith, λ z. ⊎_elim (λ t. absurd (lead z t)) (λ t. (let e : length ds ≡ 0 = eqb-true (length ds) 0 t in omega arith)) (or_cases (not (eqb d 48)) (eqb (length ds) 0) p.1))
-  where
-    lead : d ≡ 48 → not (eqb d 48) ≡ true → ⊥
-    lead z t = let u : not (eqb d 48) ≡ false = ap not (eq-eqb d 48 z) in cc
+plain_parts (d ∷ ds) e = grind (arith, nat_tests)
 
 plain_from : (ds : List ℕ) → 0 < length ds → length ds ≤ 13 → (get_or ds 0 0 ≡ 48 → length ds ≡ 1) → plain_size ds ≡ true
 plain_from [] some short first = absurd (omega arith)
-plain_from (d ∷ ds) some short first = and_from _ _ (le-leb (length ds) 12 (omega arith)) (go (eqb d 48) refl)
-  where
-    go : (t : Bool) → eqb d 48 ≡ t → not t || eqb (length ds) 0 ≡ true
-    go true e = eq-eqb (length ds) 0 (omega (arith, first (eqb-true d 48 e)))
-    go false e = refl
+plain_from (d ∷ ds) some short first = grind (arith, nat_tests)
 
 unsigned_prints : (ds : List ℕ) (n : ℕ) → unsigned_of ds ≡ Some n → Prints ds n
 unsigned_prints ds n e = go (plain_size ds) refl (all_digits ds) refl e
@@ -100,16 +82,7 @@ prints_unsigned ds n h =
 -- digits have no minus sign in front
 digits_number : (ds : List ℕ) (n : ℕ) → unsigned_of ds ≡ Some n → number_of ds ≡ Some (pos n)
 digits_number [] n e = cc
-digits_number (d ∷ ds) n e = go (eqb d 45) refl
-  where
-    minus : d ≡ 45 → unsigned_of (d ∷ ds) ≡ None
-    minus z =
-        let low : is_digit d ≡ false = and_left (leb 48 d) (leb d 57) (lt-leb 48 d (omega arith)) in
-        ap (λ (t : Bool). cond (plain_size (d ∷ ds)) (cond (t && all_digits ds) (Some (decimal_value (d ∷ ds))) None) None) low ∙ cond_both (plain_size (d ∷ ds)) None None (λ (o : Option ℕ). o ≡ None) (λ t. refl) (λ t. refl)
-
-    go : (t : Bool) → eqb d 45 ≡ t → cond t (negative_of ds) (positive_of (d ∷ ds)) ≡ Some (pos n)
-    go true m = let f = minus (eqb-true d 45 m) in cc
-    go false m = ap unnegated e
+digits_number (d ∷ ds) n e = grind (arith, nat_tests)
 
 pub number_law : (field : List ℕ) → NumberLaw field
 number_law field z = (to field, from z)
@@ -117,16 +90,11 @@ number_law field z = (to field, from z)
     negative : (bs : List ℕ) (r : Option ℕ) → unsigned_of bs ≡ r → negated r ≡ Some z → (45 ∷ bs ≡ signed_decimal z) × Short z
     negative bs None u e = cc
     negative bs (Some zero) u e = cc
-    negative bs (Some (suc n)) u e =
-        let p = unsigned_prints bs (suc n) u in
-        let same : negsuc n ≡ z = cc in
-        subst (λ (y : ℤ). (45 ∷ bs ≡ signed_decimal y) × Short y) same (ap (λ (ds : List ℕ). 45 ∷ ds) p.0, p.1)
+    negative bs (Some (suc n)) u e = let p = unsigned_prints bs (suc n) u in let same : negsuc n ≡ z = cc in rw (← same) (ap (λ (ds : List ℕ). 45 ∷ ds) p.0, p.1)
 
     positive : (bs : List ℕ) (r : Option ℕ) → unsigned_of bs ≡ r → unnegated r ≡ Some z → (bs ≡ signed_decimal z) × Short z
     positive bs None u e = cc
-    positive bs (Some n) u e =
-        let same : pos n ≡ z = cc in
-        subst (λ (y : ℤ). (bs ≡ signed_decimal y) × Short y) same (unsigned_prints bs n u)
+    positive bs (Some n) u e = let same : pos n ≡ z = cc in rw (← same) (unsigned_prints bs n u)
 
     to : (bs : List ℕ) → number_of bs ≡ Some z → (bs ≡ signed_decimal z) × Short z
     to [] e = cc

@@ -1,7 +1,7 @@
 -- The four ways of one call of the line reader.
-use Rattle.std.proofs.Common.{◌≡◌, ℕ, ◌+◌, ◌-◌, ◌<◌, ◌≤◌, cond, ltb, List, [], ◌∷◌, length, take, drop, Some, None, Ok, Err, sym, refl, ap, ◌∙◌, ⊎_elim, arith}
-use Rattle.std.proofs.lemmas.List.{take_rest, drop-drop, length-take-le, nil_from_length}
-use Rattle.std.proofs.lemmas.Bool.{cond-true, cond-false, lt-ltb, le-ltb, cases_lt}
+use Rattle.std.proofs.Common.{◌≡◌, ℕ, ◌+◌, ◌-◌, ◌<◌, ◌≤◌, cond, ltb, List, [], ◌∷◌, length, take, drop, Some, Ok, Err, sym, refl, ap, ◌∙◌, arith}
+use Rattle.std.proofs.lemmas.List.{take_rest, drop-drop, length-take-le}
+use Rattle.std.proofs.lemmas.Bool.Decides.{nat_tests}
 use Rattle.text.specs.declared.fault.TextFault.TheVariants.{Unended, TooLong}
 use Rattle.text.specs.Parts.{before, cut_at, joined_by}
 use Rattle.text.specs.Lines.{stay, end_step, step_of, line_next}
@@ -18,9 +18,6 @@ module _ (read : ℕ) (bs : List ℕ) where
       let s = cut_some 10 rest in
       ap (λ (ps : List (List ℕ)). step_of read bs (line ∷ ps)) s.2 ∙ ap (λ (r : List ℕ). cond (ltb 1024 (length line)) (stay (Err (TooLong (read + 1))) read bs) (record { answer = Ok (Some line); left = r; read = read + 1 })) (ap (joined_by 10) (sym s.2) ∙ cut_joined 10 rest)
 
-  at_end : length bs ≡ 0 → stay (Ok None) read bs ≡ line_next read bs
-  at_end e = let z = nil_from_length bs e in ap (λ (r : List ℕ). stay (Ok None) read r) z ∙ ap (line_next read) (sym z)
-
   module _ (n : ℕ) (is : n ≡ length (before 10 bs)) where
     found : n < length bs → line_next read bs ≡ cond (ltb 1024 n) (stay (Err (TooLong (read + 1))) read bs) (record { answer = Ok (Some (take n bs)); left = drop (n + 1) bs; read = read + 1 })
     found h =
@@ -31,13 +28,13 @@ module _ (read : ℕ) (bs : List ℕ) where
     whole h some = ap (step_of read bs) (cut_whole 10 bs n is h) ∙ ap (cond (ltb 1024 (length bs)) (stay (Err (TooLong (read + 1))) read bs)) (lacks_end bs some)
 
     too_long : 1024 < n → stay (Err (TooLong (read + 1))) read bs ≡ line_next read bs
-    too_long h = ⊎_elim (λ l. sym (found l ∙ cond-true _ _ _ (lt-ltb 1024 n h))) (λ l. sym (whole l (λ z. omega (arith, before_le 10 bs)) ∙ cond-true _ _ _ (lt-ltb 1024 (length bs) (omega (arith, before_le 10 bs))))) (cases_lt n (length bs))
+    too_long h = grind (arith, nat_tests, found, whole, before_le 10 bs)
 
     unended : n ≤ 1024 → length bs ≤ n → (length bs ≡ 0 → ⊥) → stay (Err (Unended (read + 1))) read bs ≡ line_next read bs
-    unended h l some = sym (whole l some ∙ cond-false _ _ _ (le-ltb 1024 (length bs) (omega arith)))
+    unended h l some = grind (arith, nat_tests, whole l some)
 
     ended : n ≤ 1024 → n < length bs → record { answer = Ok (Some (take n bs)); left = drop (n + 1) bs; read = read + 1 } ≡ line_next read bs
-    ended h l = sym (found l ∙ cond-false _ _ _ (le-ltb 1024 n h))
+    ended h l = grind (arith, nat_tests, found l)
 
 -- the same of what the code holds: `&sheet[offset..]` for what is left, and the offset moved on
 module _ (read : ℕ) (sheet : List ℕ) (offset : ℕ) where
@@ -46,9 +43,6 @@ module _ (read : ℕ) (sheet : List ℕ) (offset : ℕ) where
 
   rest_is : rest ≡ drop offset sheet
   rest_is = take_rest sheet offset
-
-  pub reads_end : length rest ≡ 0 → stay (Ok None) read (drop offset sheet) ≡ line_next read (drop offset sheet)
-  reads_end e = at_end read (drop offset sheet) (ap length (sym rest_is) ∙ e)
 
   module _ (n : ℕ) (is : n ≡ length (before 10 rest)) (some : length rest ≡ 0 → ⊥) where
     there : n ≡ length (before 10 (drop offset sheet))

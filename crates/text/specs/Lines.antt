@@ -2,6 +2,7 @@
 use Rattle.std.specs.Prelude.{◌≡◌, ℕ, ◌+◌, ◌≤◌, cond, ◌↔◌, List, [], ◌∷◌, ◌++◌, length, drop, Some, None, Ok, Err, Option, Result, nat_lt}
 use Rattle.std.specs.Borrow.{Bor}
 use Rattle.std.specs.List.{AllByRecursion}
+use Rattle.std.specs.Option.{option_copied}
 use Rattle.text.specs.declared.fault.TextFault.{TextFault}
 use Rattle.text.specs.declared.fault.TextFault.TheVariants.{TooBig, Unended, TooLong}
 use Rattle.text.specs.declared.lines.Lines.{Lines}
@@ -38,8 +39,7 @@ line_next read left = step_of read left (cut_at 10 left)
 
 -- a line, if there is one, by its bytes
 abbrev pub shown_option : Option (Bor (List ℕ)) → Option (List ℕ)
-shown_option None = None
-shown_option (Some line) = Some line.now
+shown_option line = option_copied line
 
 -- an answer with its line by its bytes
 abbrev pub shown_line : Result (Option (Bor (List ℕ))) TextFault → Result (Option (List ℕ)) TextFault

@@ -2,6 +2,7 @@
 use Rattle.std.specs.Prelude.{◌≡◌, ℕ, zero, suc, ◌+◌, ◌-◌, ◌*◌, ◌^◌, ◌<◌, Bool, false, cond, not, ◌&&◌, ◌||◌, ◌↔◌, List, [], ◌∷◌, length, ℤ, pos, negsuc, Some, None, Ok, Err, Option, Result, ◌==◌, int_le, nat_le}
 use Rattle.std.specs.Fmt.{signed_decimal}
 use Rattle.std.specs.List.{list_all}
+use Rattle.std.specs.Option.{option_map}
 use Rattle.text.specs.declared.fault.At.{At}
 use Rattle.text.specs.declared.fault.FieldFault.{FieldFault}
 use Rattle.text.specs.declared.fault.FieldFault.TheVariants.{Malformed, OutOfRange}
@@ -44,8 +45,7 @@ negated (Some (suc n)) = Some (negsuc n)
 
 -- a value with no sign
 abbrev pub unnegated : Option ℕ → Option ℤ
-unnegated None = None
-unnegated (Some n) = Some (pos n)
+unnegated value = option_map pos value
 
 abbrev pub negative_of : List ℕ → Option ℤ
 negative_of ds = negated (unsigned_of ds)

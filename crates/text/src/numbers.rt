@@ -20,6 +20,7 @@ fn value(first: u8, rest: &[u8]) -> Option<u64>
     ensures small { IfSome result (λ n. n < 10 ^ 13) }
 {
     let mut n = digit(first)?;
+    // A loop and not a chain: the first byte that is no digit ends it, and its invariant keeps the number small.
     for b in rest {
         n = n * 10 + digit(*b)?;
     }

@@ -32,7 +32,7 @@ fn check_limit<B: Book>(
 }
 
 // Cuts the place to its common part with the span, settles the board, and returns the strikes; the cut is none of them.
-#[tactic(auto, using(crate::proofs::Limiting::checked_lengths))]
+#[tactic(auto, using(crate::proofs::Limiting::checked_lengths), unfolding(crate::specs::Calls::limit_reply, crate::specs::Calls::enough))]
 pub fn limit<B: Book>(
     position: &Position,
     book: &B,

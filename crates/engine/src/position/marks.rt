@@ -25,6 +25,7 @@ fn check_keep(position: &Position, board: usize, keep: usize) -> Result<(), Refu
 }
 
 // Puts a copy of the board on the keep.
+#[tactic(auto, unfolding(crate::specs::Calls::mark_reply, crate::specs::Calls::holds, crate::specs::Calls::marked, crate::specs::Calls::shown))]
 pub fn mark<S: Span>(position: &mut Position, board: &[S], keep: &mut [S]) -> Result<(), Refusal>
     ensures { MarkCall position.old board.now keep.old result position.new keep.new }
 {
@@ -39,6 +40,7 @@ pub fn mark<S: Span>(position: &mut Position, board: &[S], keep: &mut [S]) -> Re
 }
 
 // Restores the board of the latest standing mark, and removes that mark.
+#[tactic(auto, unfolding(crate::specs::Calls::back_reply, crate::specs::Calls::holds, crate::specs::Calls::back_to))]
 pub fn back<S: Span>(position: &mut Position, board: &mut [S], keep: &[S]) -> Result<(), Refusal>
     ensures { BackCall position.old board.old keep.now result position.new board.new }
 {

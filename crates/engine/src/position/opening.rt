@@ -17,7 +17,7 @@ pub struct Opened {
 }
 
 // Settles the board, as far as the book counts places. Its law is the law of all histories of the book.
-#[tactic(auto, using(crate::proofs::Law::history_law_lem, crate::proofs::Exits::checked_long))]
+#[tactic(auto, using(crate::proofs::Law::history_law_lem, crate::proofs::Exits::checked_long, crate::proofs::Calling::none_empty), unfolding(crate::specs::Calls::open_reply, crate::specs::Calls::enough))]
 pub fn opening<B: Book>(
     book: &B,
     board: &mut [B::Span],

@@ -19,6 +19,7 @@ fn lowest_empty<S: Span>(board: &[S]) -> Option<usize>
 }
 
 // Copies the board onto the working board and lets no rule wait; refused at the lowest empty span.
+// Slices and no struct that borrows them: each method would need clauses that it keeps the references, as many as it saves.
 pub(super) fn prepare<S: Span>(
     board: &[S],
     working: &mut [S],

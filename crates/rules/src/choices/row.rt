@@ -25,11 +25,9 @@ impl ChoiceRow {
     pub fn place_on(&self, side: Side) -> Place
         ensures { result ≡ place_on_side (link_of self.now) side }
     {
-        match (self, side) {
-            (ChoiceRow::Pair(row), Side::First) => row.first,
-            (ChoiceRow::Pair(row), Side::Second) => row.second,
-            (ChoiceRow::Apart(row), Side::First) => row.first,
-            (ChoiceRow::Apart(row), Side::Second) => row.second,
+        match self {
+            ChoiceRow::Pair(row) => side.of(row.first, row.second),
+            ChoiceRow::Apart(row) => side.of(row.first, row.second),
         }
     }
 

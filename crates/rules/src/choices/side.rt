@@ -1,5 +1,5 @@
 ghost use Rattle.std.specs.Prelude.{◌≡◌};
-ghost use Rattle.rules.specs.Sides.{across};
+ghost use Rattle.rules.specs.Sides.{across, on};
 
 // The two places of a rule between two places.
 #[derive(Clone, Copy, PartialEq, Eq, Debug)]
@@ -16,6 +16,16 @@ impl Side {
         match self {
             Side::First => Side::Second,
             Side::Second => Side::First,
+        }
+    }
+
+    // Of two, the one on the side.
+    pub fn of<T: Copy>(self, first: T, second: T) -> T
+        ensures { result ≡ on self first second }
+    {
+        match self {
+            Side::First => first,
+            Side::Second => second,
         }
     }
 }

@@ -1,4 +1,4 @@
-use Rattle.std.proofs.Common.{◌≡◌, ℕ, zero, suc, ◌+◌, ◌-◌, ◌<◌, ◌≤◌, List, ◌++◌, length, take, drop, replicate, Err, sym, refl, ap, ◌∙◌, subst, arith, length-append, length-drop}
+use Rattle.std.proofs.Common.{◌≡◌, ℕ, zero, suc, ◌+◌, ◌-◌, ◌<◌, ◌≤◌, List, ◌++◌, length, take, drop, replicate, Err, sym, ap, ◌∙◌, subst, arith, length-append, length-drop}
 use Rattle.std.proofs.lemmas.List.{length-take-le}
 use Rattle.std.proofs.lemmas.Result.{err_from_is_err_and}
 use Rattle.spans.specs.Kind.{Kind}
@@ -9,9 +9,6 @@ use Rattle.engine.specs.Skims.{halted, onward, skim, skims, skimmed}
 use Rattle.engine.proofs.Falling.{Kept, Keeps, total_most, skim_keeps, skims_stop, skims_end, skims_more}
 use Rattle.engine.proofs.Waits.{filled_front}
 use Rattle.engine.proofs.sweep.settle.Goals as goal
-
-pub loop-after-init : goal.loop-after-init
-loop-after-init g c = (suc (total g.B.Span.Span.kind c.args.board.now), omega arith, record { full = c.requires.full; falls = omega arith; long = refl; rises = omega arith }, refl)
 
 pub sweep-requires : goal.sweep-requires
 sweep-requires g c =

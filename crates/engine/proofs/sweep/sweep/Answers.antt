@@ -13,11 +13,6 @@ use Rattle.engine.proofs.Visiting.{tend_empties, tend_strikes, tend_leaves, tend
 use Rattle.engine.proofs.sweep.sweep.Goals as goal
 use Rattle.engine.proofs.sweep.sweep.Goals.{then-is_narrower, else-is_narrower, then-loop-rule-test+else-waiting-rule-eq0+then-loop-i-test+then-is_empty, else-loop-rule-test}
 
-pub loop-rule-init : goal.loop-rule-init
-loop-rule-init g c =
-    let book = g.B.Book.meaning c.args.book.now in
-    (c.requires.full, c.requires.few, c.rules-rule-end.ensures, c.requires.waiting, ap (λ n. skim_from g.B.Span.Span.kind book n 0 c.args.board.now c.args.waiting.now c.args.start) (omega arith))
-
 pub loop-rule-preserved-then-waiting-rule-eq0 : goal.loop-rule-preserved-then-waiting-rule-eq0
 loop-rule-preserved-then-waiting-rule-eq0 g c =
     let kind = g.B.Span.Span.kind in

@@ -17,6 +17,7 @@ use spans::{Choice, Span};
 fn joined(pairs: &[TokenPair], side: Side, other: Choice) -> Choice
     ensures { Exactly result (λ t. some_pair (joins side other t) pairs.now) }
 {
+    // A loop and not a chain: a fold would hand the choice found so far from turn to turn as well, beside a filter.
     let mut found = Choice::empty();
     for pair in pairs {
         if has_token(other, pair.on(side.across())) {

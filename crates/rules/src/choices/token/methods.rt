@@ -23,9 +23,6 @@ impl TokenPair {
     pub fn on(self, side: Side) -> u8
         ensures { result ≡ token_on self side }
     {
-        match side {
-            Side::First => self.first,
-            Side::Second => self.second,
-        }
+        side.of(self.first, self.second)
     }
 }

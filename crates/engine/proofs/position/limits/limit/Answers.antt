@@ -1,13 +1,8 @@
 use Rattle.std.proofs.Common.{replicate, Err, sym, ap, ◌∙◌}
 use Rattle.std.proofs.lemmas.Result.{err_from_is_err_and}
 use Rattle.std.proofs.lemmas.Bool.{eqb-true, eqb-false}
-use Rattle.engine.proofs.Limiting.{limiting_short, limiting_hole, limiting_nothing, limiting_full, limiting_tried}
+use Rattle.engine.proofs.Limiting.{limiting_hole, limiting_nothing, limiting_full, limiting_tried}
 use Rattle.engine.proofs.position.limits.limit.Goals as goal
-
-pub returns-in_err-check_limit : goal.returns-in_err-check_limit
-returns-in_err-check_limit g c keep =
-    let p = err_from_is_err_and c.from_residual.result c.from_residual.ensures.1 in
-    limiting_short g.B.Span.Span.kind _ c.args.position.now (record { place = c.args.place; span = c.args.span }) c.args.board.now c.args.working.now keep c.args.waiting.now c.from_residual.result _ (p.1 ∙ ap Err p.2) c.in_err-check_limit.ensures
 
 pub returns-in_err-prepare : goal.returns-in_err-prepare
 returns-in_err-prepare g c keep =

@@ -1,33 +1,22 @@
-use Rattle.std.proofs.Common.{◌≡◌, ℕ, ◌+◌, cond, eqb, length, get_or, ℤ, Some, None, Option, sym, refl, ap, ◌∙◌, subst, ap₂, arith}
+use Rattle.std.proofs.Common.{◌≡◌, ℕ, ◌+◌, cond, eqb, length, get_or, ℤ, Some, Option, sym, refl, ap, ◌∙◌, subst, ap₂, arith}
 use Rattle.std.proofs.lemmas.List.{get_or_default}
 use Rattle.std.proofs.lemmas.Int.{ints}
-use Rattle.std.proofs.lemmas.Bool.{cond-true, cond-false, eq-eqb, ne_eqb, eqb-true}
+use Rattle.std.proofs.lemmas.Bool.{cond-true, cond-false, eq-eqb, ne_eqb}
 use Rattle.spans.specs.Amounts.{amount_size}
 use Rattle.spans.specs.AmountKind.{amounts}
 use Rattle.spans.specs.declared.amount.Amount.{Amount}
 use Rattle.rules.specs.SumRows.{blank}
-use Rattle.rules.specs.Sums.{all_some, index_from, least_product_of, least_on, greatest_product_of, greatest_on, low, high}
+use Rattle.rules.specs.Sums.{least_product_of, least_on, greatest_product_of, greatest_on, low, high}
 use Rattle.rules.specs.declared.sums.adding.Others.{Others}
 use Rattle.rules.specs.SumPasses.{passed}
 use Rattle.rules.proofs.SumProducts.{Near}
 use Rattle.rules.proofs.SumAdding.{Adding, adding_none, adding_pass, adding_more, adding_all, place_at, coefficient_at_lem, requires_back, product_on, least_near, greatest_near}
-use Rattle.rules.proofs.SumIndexes.{empty_here, some_here, index_here, index_there, index_elsewhere, index_left, index_in, index_or}
+use Rattle.rules.proofs.SumIndexes.{some_here, index_here, index_there, index_elsewhere, index_left, index_in, index_or}
 use Rattle.rules.proofs.sums.adding.add_others.Goals as goal
 use Rattle.rules.proofs.sums.adding.add_others.Goals.{then-t-place, else-t-place}
 
 pub bounds-board-t : goal.bounds-board-t
 bounds-board-t c = place_at (length c.args.board.now) c.args.terms.now c.loop-i.i c.loop-i-test.true c.requires.terms
-
-pub returns-then-is_empty : goal.returns-then-is_empty
-returns-then-is_empty c =
-    let b = c.args.board.now in
-    let ts = c.args.terms.now in
-    let i = c.loop-i.i in
-    let h = c.loop-i-test.true in
-    let p = (get_or ts i blank).place in
-    let s = c.index-board-t.is ∙ get_or_default b p c.index-board-t.result amounts.none (place_at (length b) ts i h c.requires.terms) in
-    let z = ap amount_size (sym s) ∙ eqb-true (amount_size c.index-board-t.result) 0 (sym c.is_empty.ensures.count ∙ c.if-is_empty.true) in
-    ap (passed ts b) (sym (cond-false (all_some ts b) (index_from 0 c.args.place ts None) None (sym c.loop-i.invariant.0 ∙ empty_here ts b c.args.place i h z)))
 
 pub loop-i-init : goal.loop-i-init
 loop-i-init c =
@@ -109,14 +98,6 @@ loop-i-preserved c =
             adding_more (greatest_on b) a ts i _ g h away y _ y-is m (omega (arith, ints, m.low, m.high, g.near.low, g.near.high, h, c.requires.few, w.high-is)),
           ))
     ]
-
-pub returns-in_err-asked : goal.returns-in_err-asked
-returns-in_err-asked c =
-    let b = c.args.board.now in
-    let ts = c.args.terms.now in
-    let inv = c.loop-i.invariant in
-    let r = index_left ts b c.args.place c.loop-i.i c.loop-i.found c.loop-i-test.false inv.0 inv.1 in
-    c.from_residual.ensures ∙ ap (passed ts b) (sym (r.1 ∙ c.in_err-asked.was))
 
 pub returns : goal.returns
 unfolding low high

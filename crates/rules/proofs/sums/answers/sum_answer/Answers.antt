@@ -5,11 +5,6 @@ use Rattle.rules.specs.declared.sums.term.Relation.TheVariants.{AtMost, AtLeast,
 use Rattle.rules.proofs.SumAnswers.{answer_is, ready, rest, row_terms}
 use Rattle.rules.proofs.sums.answers.sum_answer.Goals as goal
 
-pub add_others-requires : goal.add_others-requires
-add_others-requires c =
-    let r = row_terms c.args.row.now c.args.board.now c.terms-terms.result.now c.terms-terms.ensures c.requires.whole in
-    record { terms = r.0; few = r.1 }
-
 pub offset_bounds-terms-others : goal.offset_bounds-terms-others
 offset_bounds-terms-others c =
     let few = (row_terms c.args.row.now c.args.board.now c.terms-terms.result.now c.terms-terms.ensures c.requires.whole).1 in

@@ -17,11 +17,6 @@ returns-then-a-gt0 c =
     let floor : int_max (to_z w64 (of_z w64 (to_z w32 (of_z w32 c.floor.result)))) s.floor ≡ s.floor = omega (arith, ints, clamps) in
     c.cut.ensures ∙ ap (λ (z : ℤ). amount_from z (int_min q s.ceiling)) floor ∙ keep_above c.args.a c.args.r _ c.args.span (by_sign c.args.a true c.ranges.a c.if-a-gt0.true) (q-is ∙ c.div_euclid.ensures ∙ ap₂ int_div_euclid r-is a-is)
 
-pub div_euclid-requires-2 : goal.div_euclid-requires-2
-div_euclid-requires-2 c =
-    let l = below_zero c.args.a c.requires.a (by_sign c.args.a false c.ranges.a c.if-a-gt0.false) in
-    record { nonzero = omega (arith, ints); no_overflow = λ e f. omega (arith, ints) }
-
 pub overflow_sub-div_euclid : goal.overflow_sub-div_euclid
 overflow_sub-div_euclid c =
     let a = c.args.a in

@@ -1,11 +1,6 @@
 use Rattle.std.proofs.Common.{refl, rules}
-use Rattle.text.proofs.Stepping.{reads_end, reads_too_long, reads_unended, reads_line}
+use Rattle.text.proofs.Stepping.{reads_too_long, reads_unended, reads_line}
 use Rattle.text.proofs.lines.Lines.next.Goals as goal
-
-pub returns-then-is_empty : goal.returns-then-is_empty
-returns-then-is_empty c =
-    let s = c.args.self.now in
-    rw (← reads_end s.read s.sheet.now s.offset (search rules)) (record { answer = refl; left = refl; read = refl; sheet = refl })
 
 pub returns-then-n-gt-LINE_BYTES : goal.returns-then-n-gt-LINE_BYTES
 returns-then-n-gt-LINE_BYTES c =
