@@ -9,7 +9,8 @@ use spans::Span;
 
 const MOST_RULES: u32 = 1000;
 
-// Two books joined. That they fit is no invariant: it would hide which of the two is asked for its places.
+// Two books joined. That they fit is no invariant: with it, to ask the second for the places would be no mistake, and no edit
+// that does so would be refused.
 #[derive(Drop)]
 pub struct Joined<'a, 'b, A: Book, B: Book<Span = A::Span>> {
     first: &'a A,
@@ -55,6 +56,7 @@ impl<'a, 'b, A: Book, B: Book<Span = A::Span>> Book for Joined<'a, 'b, A, B> {
     }
 
     fn rules(&self) -> RuleNumber {
+        // A match, and no `map_or`: the two counts are alike, and stand one above the other.
         match check_join(self.first, self.second) {
             Ok(()) => self.first.rules() + self.second.rules(),
             Err(_) => self.first.rules(),

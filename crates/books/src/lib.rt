@@ -79,7 +79,7 @@ pub trait Book {
         requires { (meaning self.now).rules ≤ length waiting.old }
         ensures { waiting.new ≡ woken (meaning self.now) place waiting.old }
     {
-        // Over the numbers that the book is asked: a walk over the list would cast each index back to one.
+        // By number: over a zipped `iter_mut` a proof knows nothing of what is written, and a numbered one would cast its index.
         for rule in 0..self.rules() {
             if self.has_place(rule, place) {
                 waiting[rule as usize] = 1;

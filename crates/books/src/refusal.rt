@@ -11,7 +11,7 @@ pub enum JoinRefusal {
 }
 
 impl JoinRefusal {
-    // The number by which the game is told.
+    // The number by which the game is told. No trait of refusals: it would have a table for each type all the same.
     pub fn number(self) -> u8
         ensures { result ≡ refusal_number self }
     {

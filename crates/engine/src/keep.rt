@@ -1,4 +1,5 @@
-// A stack of boards of one size in lent memory, for every kind of span. How many boards stand on it is told by the caller.
+// A stack of boards of one size in lent memory, for every kind of span. How many boards stand on it is told by the caller: the
+// keep is lent anew at each call, once to be written and once to be read, so that a struct around it would keep nothing.
 ghost use Rattle.std.specs.Prelude.{◌≡◌, ◌+◌, ◌*◌, ◌≤◌, ◌++◌, length, take, drop};
 
 // Puts a copy of the board on top of the boards that stand.

@@ -20,7 +20,8 @@ pub(crate) struct EmptiedBy {
 
 // One sweep over the rules that wait, by rising number, each rule's places in its order. It goes on from so many strikes.
 // A rule waits no more when its visit begins; a strike makes every rule of its place wait.
-// Loops and no chain: a strike changes the board and the waiting list that the next visit reads.
+// Loops and no chain: a strike changes the board and the waiting list that the next visit reads. The facts on these two stand
+// in each contract that needs them, since a struct that borrows both needs as many clauses.
 pub(crate) fn sweep<B: Book>(
     book: &B,
     board: &mut [B::Span],
@@ -56,6 +57,7 @@ pub(crate) fn sweep<B: Book>(
         }
         None
     };
+    // Left by the label with a place and a rule, or at the end of all rules: each is an answer of its own, and proved so.
     match emptied {
         Some(by) => Err(by),
         None => Ok(strikes),

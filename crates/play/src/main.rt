@@ -44,7 +44,7 @@ fn print_record(rt: &HostRuntime, line: &[u8]) -> io::Result<()> {
 // Every record of a sheet of so many lines, and then how many there are.
 fn print_records(rt: &HostRuntime, sheet: &[u8], count: usize) -> io::Result<()> {
     let mut lines = Lines::new(sheet);
-    // Counted, and not until the last line: a walk that stays at a fault has no end that a loop could be proved to reach.
+    // Counted by the outline: a loop until the last line would need a measure, proved in a file of the program's own.
     for _ in 0..count {
         if let Ok(Some(line)) = lines.next() {
             print_record(rt, line)?;

@@ -4,6 +4,7 @@ use engine::{Position, back, check_finish, finish, limit, mark, opening};
 use rules::sums::{Relation, SumBook, SumRow, Term};
 use spans::Amount;
 use std::io;
+use std::io::ErrorKind;
 
 fn term(coefficient: i32, place: u8) -> Term {
     Term { coefficient, place }
@@ -62,9 +63,8 @@ fn marks_and_limits(
 
 // 3X - 4Y = 0, from 0 to 10, and then from 1 to 10 with marks and limits.
 fn three_four(rt: &HostRuntime) -> io::Result<()> {
-    let Some(row) = SumRow::new(2, Relation::Equal, 0, &[term(3, 0), term(-4, 1)]) else {
-        return Ok(());
-    };
+    let terms = [term(3, 0), term(-4, 1)];
+    let row = SumRow::new(2, Relation::Equal, 0, &terms).ok_or(ErrorKind::InvalidInput)?;
     println!(rt; "3X - 4Y = 0")?;
     let rows = [row];
     let book = SumBook::new(2, &rows);
@@ -83,9 +83,7 @@ fn three_four(rt: &HostRuntime) -> io::Result<()> {
 
 // 2A <= -7: the bound is rounded inward.
 fn twice(rt: &HostRuntime) -> io::Result<()> {
-    let Some(row) = SumRow::new(1, Relation::AtMost, -7, &[term(2, 0)]) else {
-        return Ok(());
-    };
+    let row = SumRow::new(1, Relation::AtMost, -7, &[term(2, 0)]).ok_or(ErrorKind::InvalidInput)?;
     println!(rt; "2A <= -7")?;
     let rows = [row];
     let book = SumBook::new(1, &rows);
@@ -99,9 +97,8 @@ fn twice(rt: &HostRuntime) -> io::Result<()> {
 
 // 2A + 2B + 2C = 3: settled, though no holding obeys it.
 fn three_twos(rt: &HostRuntime) -> io::Result<()> {
-    let Some(row) = SumRow::new(3, Relation::Equal, 3, &[term(2, 0), term(2, 1), term(2, 2)]) else {
-        return Ok(());
-    };
+    let terms = [term(2, 0), term(2, 1), term(2, 2)];
+    let row = SumRow::new(3, Relation::Equal, 3, &terms).ok_or(ErrorKind::InvalidInput)?;
     println!(rt; "2A + 2B + 2C = 3")?;
     let rows = [row];
     let book = SumBook::new(3, &rows);

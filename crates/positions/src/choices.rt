@@ -4,6 +4,7 @@ use engine::{limit, opening};
 use rules::choices::{ApartRow, ChoiceBook, ChoiceRow, PairRow, TokenPair};
 use spans::Choice;
 use std::io;
+use std::io::ErrorKind;
 
 // The pairs (0, 1) and (1, 2), for P and Q.
 fn two_pairs() -> Option<ChoiceRow> {
@@ -19,6 +20,7 @@ fn apart(first: u8, second: u8) -> Option<ChoiceRow> {
     Some(ChoiceRow::Apart(row))
 }
 
+// No one function with the opening of amounts: there the position is gone at once, and here it is limited.
 // Opens a board of tokens, limits place 0 to token 0, and shows the board after each.
 fn open_and_limit(
     rt: &HostRuntime,
@@ -49,9 +51,7 @@ fn open_and_limit(
 
 // P and Q take the tokens of a pair.
 fn pairs(rt: &HostRuntime) -> io::Result<()> {
-    let Some(row) = two_pairs() else {
-        return Ok(());
-    };
+    let row = two_pairs().ok_or(ErrorKind::InvalidInput)?;
     println!(rt; "P, Q by the pairs (0, 1) and (1, 2)")?;
     let rows = [row];
     let book = ChoiceBook::new(2, &rows);
@@ -65,15 +65,9 @@ fn pairs(rt: &HostRuntime) -> io::Result<()> {
 
 // P, Q and R differ, each two of them, with two tokens for three places: settled, and refused at the first limit.
 fn all_apart(rt: &HostRuntime) -> io::Result<()> {
-    let Some(one) = apart(0, 1) else {
-        return Ok(());
-    };
-    let Some(two) = apart(0, 2) else {
-        return Ok(());
-    };
-    let Some(three) = apart(1, 2) else {
-        return Ok(());
-    };
+    let one = apart(0, 1).ok_or(ErrorKind::InvalidInput)?;
+    let two = apart(0, 2).ok_or(ErrorKind::InvalidInput)?;
+    let three = apart(1, 2).ok_or(ErrorKind::InvalidInput)?;
     println!(rt; "P, Q, R apart")?;
     let rows = [one, two, three];
     let book = ChoiceBook::new(3, &rows);

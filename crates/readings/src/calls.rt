@@ -42,6 +42,7 @@ pub fn read_game<'t, 's, R: RuleRow>(
     ensures read { seen R.RuleRow.holds result ≡ shows (game_read R.RuleRow.sheets (length places.old) (length rules.old) sheet.now) (map place_shown places.old) (map R.RuleRow.holds rules.old) }
     ensures law { GameLaw R.RuleRow.sheets (length places.old) (length rules.old) sheet.now }
 {
+    // A match: both answers go on borrowing the tables, which two closures could not.
     match fill_game(sheet, places, rules) {
         Ok(counts) => Ok(parted(places, rules, counts)),
         Err(fault) => Err(Refused {
@@ -71,6 +72,8 @@ fn extended<'t, 's, R: RuleRow>(
     }
 }
 
+// No one call for games and expansions: an expansion is read into one table and with the places of another sheet.
+
 // Reads an expansion of a game, whose first 254 names its rules may use, into a table, from its first entry on. The table's
 // other entries stay, as for a game.
 pub fn read_expansion<'t, 's, R: RuleRow>(
@@ -82,6 +85,7 @@ pub fn read_expansion<'t, 's, R: RuleRow>(
     ensures law { ExpansionLaw R.RuleRow.sheets (take 254 (map place_shown game.now.places.now)) (length rules.old) sheet.now }
 {
     let names = Names::new(game.places);
+    // A match, as above.
     match fill_expansion(sheet, names, rules) {
         Ok(count) => Ok(extended(game, rules, count)),
         Err(fault) => Err(Refused {

@@ -34,7 +34,8 @@ pub(crate) fn fill_places<'s>(
     Ok(count)
 }
 
-// Fills a table with the rules of the lines that are left, and returns how many there are.
+// Fills a table with the rules of the lines that are left, and returns how many there are. No one function with the places: a
+// place is read behind those before it, and any other line ends them.
 pub(crate) fn fill_rules<R: RuleRow>(
     lines: &mut Lines,
     names: Names,

@@ -5,14 +5,15 @@ ghost use Rattle.records.specs.Places.{place_shown};
 ghost use Rattle.readings.specs.Books.{BookLaw, Opened};
 
 use crate::sheet::Sheet;
-use records::{Names, RuleRow};
-use rules::rows::RowBook;
+use records::{BookRow, Names, RuleRow};
+use rules::rows::{Row, RowBook};
+use spans::Span;
 
 // The book of a sheet: its rules, over boards of its places.
-pub fn book<'t, R: RuleRow>(sheet: &Sheet<'t, '_, R>) -> RowBook<'t, R>
+pub fn book<'t, R: BookRow>(sheet: &Sheet<'t, '_, R>) -> RowBook<'t, R>
     ensures places { result.places ≡ min (length sheet.now.places.now) 254 }
     ensures rules { result.rows ≡ sheet.now.rules }
-    ensures law { BookLaw result.places (map R.RuleRow.holds result.rows.now) (row_book_of R.Span.Span.kind R.boards R.rule result.places result.rows.now) }
+    ensures law { BookLaw result.places (map R.RuleRow.holds result.rows.now) (row_book_of ⟦<<R as Row>::Span as Span>⟧.kind R.boards R.rule result.places result.rows.now) }
 {
     R::means();
     let names = Names::new(sheet.places);
@@ -24,7 +25,7 @@ pub fn write_board<R: RuleRow>(sheet: &Sheet<R>, board: &mut [R::Span])
     ensures { Opened R.Span.Span.kind R.RuleRow.sheets (map place_shown sheet.now.places.now) board.old board.new }
 {
     let places = sheet.places;
-    // By index: of what is written through a zipped `iter_mut` a proof knows the length alone.
+    // By index: over a zipped `iter_mut` a proof knows nothing of what is written, and a numbered one would index the places.
     for i in 0..places.len().min(board.len()) {
         board[i] = R::open(places[i].opening);
     }

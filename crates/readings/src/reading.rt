@@ -12,14 +12,14 @@ use crate::walk::next_line;
 use records::{Names, PlaceRow, RuleRow, SheetFault, SheetKind, SpanKind, check_title};
 use text::{FieldFault, Lines, check_size};
 
-// How many entries of the tables a sheet fills.
+// How many entries of the tables a sheet fills: sizes of tables, and no counts of a book.
 #[derive(Clone, Copy, PartialEq, Eq, Debug)]
 pub(crate) struct Counts {
     pub places: usize,
     pub rules: usize,
 }
 
-// Fault 1 for a sheet that is too big.
+// Fault 1 for a sheet that is too big. A step of its own, since `?` raises a fault by one layer at a time.
 fn check_sheet(sheet: &[u8]) -> Result<(), FieldFault>
     ensures { result ≡ raised (size_checked sheet.now) }
 {

@@ -15,7 +15,8 @@ fn is_rule_line(line: &[u8]) -> bool
     matches!(line_word(line), Some(Word::Sum | Word::Pair | Word::Apart))
 }
 
-// The lines of some bytes that a byte 10 ends, one by one and each without it. What follows the last byte 10 is no line.
+// The lines of some bytes that a byte 10 ends, one by one and each without it. What follows the last byte 10 is no line, unlike
+// the last field of a line, so that this is no reader of fields at another byte.
 #[derive(Clone, Copy)]
 pub(crate) struct EndedLines<'s> {
     rest: &'s [u8],

@@ -1,12 +1,14 @@
 -- What pair lines and apart lines have makes rules between two places. Assumes nothing.
-use Rattle.std.proofs.Common.{◌≡◌, ℕ, ◌≤◌, true, false, ◌&&◌, eqb, ltb, List, [], map, length, ℤ, pos, negsuc, Some, Ok, Err, Result, sym, refl, ap, ◌∙◌, subst, arith}
+use Rattle.std.proofs.Common.{◌≡◌, ℕ, ◌≤◌, true, ◌&&◌, eqb, ltb, List, [], map, length, ℤ, pos, negsuc, Some, None, Option, Ok, Err, Result, sym, refl, ap, ◌∙◌, subst, arith}
 use borrow.Author.Differences.{ints}
 use Rattle.std.proofs.lemmas.List.{length-map}
 use Rattle.std.proofs.lemmas.Bool.{and_from, not_from_false, lt-ltb, le-leb, both_ways}
+use Rattle.std.specs.Option.{IsSome}
 use Rattle.rules.specs.declared.choices.token.TokenPair.{TokenPair}
 use Rattle.rules.specs.declared.choices.pair.PairRow.{PairRow}
 use Rattle.rules.specs.ChoiceTests.{are_tokens, two_places_test, is_pair_row}
-use Rattle.rules.specs.ChoiceRows.{PairAsked}
+use Rattle.rules.specs.declared.choices.apart.ApartRow.{ApartRow}
+use Rattle.rules.specs.ChoiceRows.{TokensAsked, PairAsked, ApartAsked}
 use Rattle.text.specs.declared.fault.At.{At}
 use Rattle.text.specs.declared.fault.FieldFault.{FieldFault}
 use Rattle.text.specs.Numbers.{number_of, number_in}
@@ -14,9 +16,8 @@ use Rattle.records.specs.declared.two.TwoPlaces.{TwoPlaces}
 use Rattle.records.specs.Numbers.{size, sized, count_within}
 use Rattle.records.specs.Places.{Place}
 use Rattle.records.specs.Names.{known_place}
-use Rattle.records.specs.Rules.{Tokens, Row, pair}
-use Rattle.records.specs.Steps.{at, then, unless_fault}
-use Rattle.records.specs.Between.{two_places, tokens_at, tokens_from, pair_fields, tokens_shown, pair_shown}
+use Rattle.records.specs.Steps.{at}
+use Rattle.records.specs.Between.{two_places, tokens_at, tokens_from, tokens_shown}
 use Rattle.records.proofs.Going.{then_ok, passed_false}
 use Rattle.records.proofs.Ranging.{Between, within_range}
 use Rattle.records.proofs.Summing.{place_below}
@@ -40,6 +41,11 @@ are_tokens_lem a b one two t u e f =
     let q = count_in 0 63 b two u (sym f) in
     and_from (ltb t 64) (ltb u 64) (lt-ltb t 64 (omega (arith, p.1))) (lt-ltb u 64 (omega (arith, q.1)))
 
+-- two tokens that are read make a pair
+pub tokens_made : (a b : At) (one two : List ℕ) (t u : ℕ) → Ok t ≡ count_within 0 63 a one → Ok u ≡ count_within 0 63 b two → (o : Option TokenPair) → TokensAsked t u o → IsSome o
+tokens_made a b one two t u e f (Some both) made = refl
+tokens_made a b one two t u e f None made = absurd (both_ways (are_tokens t u) made (are_tokens_lem a b one two t u e f))
+
 -- two places that are read are two places of a board
 pub are_two : (ps : List Place) (line : ℕ) (first second : List ℕ) (two : TwoPlaces) → Ok two ≡ two_places ps line first second → two_places_test (length ps) two.first two.second ≡ true
 are_two ps line first second two e =
@@ -52,24 +58,21 @@ are_two ps line first second two e =
     (and_from _ _ (lt-ltb r.value (length ps) (place_below ps (at line 1) first r.value r.read)) (lt-ltb q.value (length ps) (place_below ps (at line 2) second q.value q.read)))
     (not_from_false _ d.0))
 
--- the row of a pair line, made of what was read
+-- what was read of a pair line makes a row
 module _ (ps : List Place) (line n : ℕ) (first second : List ℕ) (fs : List (List ℕ)) (two : TwoPlaces) (tokens : List TokenPair)
     (n-is : n ≡ length ps)
     (two-read : Ok two ≡ two_places ps line first second)
     (tokens-read : Ok (map tokens_shown tokens) ≡ tokens_from line 3 [] fs) where
-  pub pair_none : 1 ≤ length fs → length tokens ≤ 100 → is_pair_row n two.first two.second (length tokens) ≡ false → ⊥
-  pair_none some few e =
+  pub pair_made : 1 ≤ length fs → length tokens ≤ 100 → (o : Option PairRow) → PairAsked n two.first two.second tokens o → IsSome o
+  pair_made some few (Some row) made = refl
+  pair_made some few None e =
       let l = length-map tokens tokens_shown in
       let k = twos_some (λ g us. tokens_at line g) 3 fs (map tokens_shown tokens) (sym tokens-read) some in
       let two_ok = ap (λ m. two_places_test m two.first two.second) n-is ∙ are_two ps line first second two two-read in
-      both_ways (is_pair_row n two.first two.second (length tokens)) e
-      (and_from _ _ (and_from (two_places_test n two.first two.second) (ltb 0 (length tokens)) two_ok (lt-ltb 0 (length tokens) (omega arith))) (le-leb (length tokens) 100 few))
+      absurd (both_ways (is_pair_row n two.first two.second (length tokens)) e
+      (and_from _ _ (and_from (two_places_test n two.first two.second) (ltb 0 (length tokens)) two_ok (lt-ltb 0 (length tokens) (omega arith))) (le-leb (length tokens) 100 few)))
 
-  pub pair_some : (row : PairRow) → PairAsked n two.first two.second tokens (Some row) → Ok (pair_shown row) ≡ pair_fields ps line first second fs
-  pair_some row made =
-      ap Ok (shown_is (made.1 ∙ n-is) made.2 made.3 (ap (map tokens_shown) made.4))
-      ∙ ap (λ x. unless_fault x (λ ts. Ok (record { places = length ps; rule = pair two.first two.second ts }))) tokens-read
-      ∙ ap (λ x. then x (λ (t : TwoPlaces). unless_fault (tokens_from line 3 [] fs) (λ ts. Ok (record { places = length ps; rule = pair t.first t.second ts })))) two-read
-    where
-      shown_is : {p q a b c d : ℕ} {us vs : List Tokens} → p ≡ q → a ≡ b → c ≡ d → us ≡ vs → ◌≡◌ {A = Row} (record { places = p; rule = pair a c us }) (record { places = q; rule = pair b d vs })
-      shown_is e f g h = cc
+-- two places that are read make an apart rule
+pub apart_made : (ps : List Place) (line n : ℕ) (first second : List ℕ) (two : TwoPlaces) → n ≡ length ps → Ok two ≡ two_places ps line first second → (o : Option ApartRow) → ApartAsked n two.first two.second o → IsSome o
+apart_made ps line n first second two n-is e (Some row) made = refl
+apart_made ps line n first second two n-is e None made = absurd (both_ways _ made (ap (λ m. two_places_test m two.first two.second) n-is ∙ are_two ps line first second two e))

@@ -2,7 +2,6 @@
 use Rattle.std.proofs.Common.{◌≡◌, ℕ, Bool, true, false, cond, ◌&&◌, T, List, ℤ, pos, negsuc, nat_abs, ◌≤ℤ◌, Some, None, Ok, Err, Option, sym, refl, ap, ◌∙◌, subst, arith, w8, w32, w64, Fits, SFits, to_z, of_z}
 use borrow.Author.Differences.{ints}
 use lib.Signed.{le_z, le_z_yes, non_neg}
-use Rattle.records.specs.Numbers.{size}
 use Rattle.std.proofs.lemmas.Bool.{and_parts}
 use Rattle.text.specs.declared.fault.At.{At}
 use Rattle.text.specs.declared.fault.FieldFault.TheVariants.{OutOfRange}
@@ -73,11 +72,4 @@ module _ (low high : ℕ) (n : ℤ) (f : Fits w8 low) (g : Fits w8 high) (at : A
     where
       go : (z : ℤ) → Between (pos low) (pos high) z → T (non_neg z) × Fits w8 (nat_abs z)
       go (pos m) r = (tt, omega (arith, ints))
-      go (negsuc m) r = absurd (omega (arith, ints))
-
-  pub count_back : nat_abs (to_z w64 (of_z w64 n)) ≡ size n
-  count_back = ap nat_abs same ∙ go n range
-    where
-      go : (z : ℤ) → Between (pos low) (pos high) z → nat_abs z ≡ size z
-      go (pos m) r = refl
       go (negsuc m) r = absurd (omega (arith, ints))

@@ -1,24 +1,23 @@
 -- The terms that are read are terms of a sum. Assumes nothing.
-use Rattle.std.proofs.Common.{◌≡◌, ℕ, suc, ◌+◌, ◌<◌, ◌≤◌, Bool, true, false, cond, not, ◌&&◌, ◌||◌, eqb, ltb, leb, List, [], ◌∷◌, ◌++◌, map, length, ℤ, pos, negsuc, neg_ℤ, Some, Ok, Err, sym, refl, ap, ◌∙◌, subst, ap₂, arith}
+use Rattle.std.proofs.Common.{◌≡◌, ℕ, suc, ◌+◌, ◌<◌, ◌≤◌, Bool, true, false, cond, not, ◌&&◌, ◌||◌, eqb, ltb, leb, List, [], ◌∷◌, ◌++◌, map, length, ℤ, pos, negsuc, neg_ℤ, Some, None, Option, Ok, Err, sym, refl, ◌∙◌, subst, ap₂, arith}
 use borrow.Author.Differences.{ints}
 use lib.Signed.{le_z}
 use Rattle.std.proofs.lemmas.Bool.{and_from, and_parts, or_from, or_parts, not_from_false, not-true, eqb-false, ne_eqb, lt-ltb, le-leb, both_ways}
+use Rattle.std.specs.Option.{IsSome}
 use Rattle.books.specs.Boards.{has}
 use Rattle.rules.specs.declared.sums.term.Term.{Term}
 use Rattle.rules.specs.SumTerms.{is_coefficient, bound_test, term_test, place_of, terms_test, sum_test}
 use Rattle.rules.specs.declared.sums.term.Relation.{Relation}
 use Rattle.rules.specs.declared.sums.row.SumRow.{SumRow}
 use Rattle.rules.specs.SumRows.{uses, Made}
-use Rattle.rules.proofs.SumRowing.{made_terms}
 use Rattle.text.specs.Names.{same_name, name_at}
 use Rattle.text.specs.Numbers.{number_of, number_in}
 use Rattle.text.specs.declared.fault.At.{At}
 use Rattle.text.specs.declared.fault.FieldFault.TheVariants.{OutOfRange}
 use Rattle.records.specs.Places.{Place}
 use Rattle.records.specs.Names.{position_after, known, known_place}
-use Rattle.records.specs.Steps.{at, then, unless_fault}
-use Rattle.records.specs.Rules.{Row, sum}
-use Rattle.records.specs.Sums.{is_zero, relation_at, coefficient_at, term_of, terms_from, sum_fields, sum_shown}
+use Rattle.records.specs.Steps.{at}
+use Rattle.records.specs.Sums.{is_zero, relation_at, coefficient_at, term_of, terms_from}
 use Rattle.records.proofs.Going.{then_ok, raised_ok, passed_false, known_ok}
 use Rattle.records.proofs.Taking.{twos_keep, twos_some}
 use Rattle.records.proofs.Ranging.{Between, within_range}
@@ -108,22 +107,12 @@ sum_ok ps line a field bound fs ts b e some few =
     bound_ok (pos n) r = and_from true (leb n 1_000_000_000_000) refl (le-leb n _ (omega (arith, ints, r.below)))
     bound_ok (negsuc n) r = and_from (leb n 999_999_999_999) true (le-leb n _ (omega (arith, ints, r.above))) refl
 
--- the row of a sum line, made of what was read
+-- what was read of a sum line makes a row
 module _ (ps : List Place) (line n : ℕ) (relation bound : List ℕ) (fs : List (List ℕ)) (r : Relation) (b c : ℤ) (ts : List Term)
     (n-is : n ≡ length ps) (c-is : c ≡ b)
     (r-read : Ok r ≡ relation_at (at line 1) relation)
     (b-read : Ok b ≡ number_in (negsuc 999_999_999_999) (pos 1_000_000_000_000) (at line 2) bound)
     (ts-read : Ok ts ≡ terms_from ps line 3 [] fs) where
-  pub sum_none : 1 ≤ length fs → length ts ≤ 16 → sum_test n c ts ≡ false → ⊥
-  sum_none some few e = both_ways (sum_test n c ts) e (ap₂ (λ m z. sum_test m z ts) n-is c-is ∙ sum_ok ps line (at line 2) bound b fs ts b-read ts-read some few)
-
-  pub sum_some : (row : SumRow) → Made n r c ts (Some row) → Ok (sum_shown row) ≡ sum_fields ps line relation bound fs
-  sum_some row made =
-      let same : sum_shown row ≡ record { places = length ps; rule = sum r b ts } = shown_is (made.1 ∙ n-is) made.2 (made.3 ∙ c-is) (made_terms row ts made.4 made.5) in
-      ap Ok same
-      ∙ ap (λ x. then x (λ us. Ok (record { places = length ps; rule = sum r b us }))) ts-read
-      ∙ ap (λ x. unless_fault x (λ z. then (terms_from ps line 3 [] fs) (λ us. Ok (record { places = length ps; rule = sum r z us })))) b-read
-      ∙ ap (λ x. unless_fault x (λ q. unless_fault (number_in (negsuc 999_999_999_999) (pos 1_000_000_000_000) (at line 2) bound) (λ z. then (terms_from ps line 3 [] fs) (λ us. Ok (record { places = length ps; rule = sum q z us }))))) r-read
-    where
-      shown_is : {p q : ℕ} {r s : Relation} {y z : ℤ} {us vs : List Term} → p ≡ q → r ≡ s → y ≡ z → us ≡ vs → ◌≡◌ {A = Row} (record { places = p; rule = sum r y us }) (record { places = q; rule = sum s z vs })
-      shown_is a b c d = cc
+  pub sum_made : 1 ≤ length fs → length ts ≤ 16 → (o : Option SumRow) → Made n r c ts o → IsSome o
+  sum_made some few (Some row) made = refl
+  sum_made some few None e = absurd (both_ways (sum_test n c ts) e (ap₂ (λ m z. sum_test m z ts) n-is c-is ∙ sum_ok ps line (at line 2) bound b fs ts b-read ts-read some few))

@@ -1,5 +1,5 @@
 -- Fields taken two by two. Assumes nothing.
-use Rattle.std.proofs.Common.{◌≡◌, ℕ, ◌+◌, ◌-◌, ◌≤◌, List, [], ◌∷◌, ◌++◌, length, Ok, Err, Result, sym, refl, ap, ◌∙◌, subst, arith}
+use Rattle.std.proofs.Common.{◌≡◌, ℕ, ◌+◌, ◌-◌, ◌≤◌, List, [], ◌∷◌, ◌++◌, length, Ok, Result, sym, refl, ap, ◌∙◌, subst, arith}
 use Rattle.std.proofs.lemmas.List.{length_push}
 use Rattle.text.specs.Fields.{others}
 use Rattle.records.specs.Records.{head}
@@ -27,9 +27,6 @@ module _ {T E : Type 0} (read : ℕ → List T → List ℕ → List ℕ → Res
         ∙ ap (λ xs. then (read f ts a (head gs)) (λ t. twos_from read (f + 2) (ts ++ (t ∷ [])) xs)) hs-is
         ∙ sym (ap (twos_from read f ts) one ∙ twos_more f ts a gs)
         ∙ inv
-
-    pub two_refused : (fault : E) → Err fault ≡ read f ts a b → Err fault ≡ all
-    two_refused fault e = whole (Err fault) e
 
     pub two_added : (t : T) (us : List T) → Ok t ≡ read f ts a b → us ≡ ts ++ (t ∷ []) → twos_from read (f + 2) us hs ≡ all
     two_added t us e u = ap (λ xs. twos_from read (f + 2) xs hs) u ∙ whole (Ok t) e

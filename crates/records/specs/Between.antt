@@ -1,5 +1,5 @@
 -- Pair lines and apart lines. Assumes nothing.
-use Rattle.std.specs.Prelude.{ℕ, ◌+◌, cond, List, [], map, length, take, Ok, Err, Result, ◌==◌}
+use Rattle.std.specs.Prelude.{ℕ, ◌+◌, cond, List, [], map, length, Ok, Err, Result, ◌==◌}
 use Rattle.rules.specs.declared.choices.token.TokenPair.{TokenPair}
 use Rattle.rules.specs.declared.choices.pair.PairRow.{PairRow}
 use Rattle.rules.specs.declared.choices.apart.ApartRow.{ApartRow}
@@ -10,7 +10,6 @@ use Rattle.text.specs.declared.fault.FieldFault.{FieldFault}
 use Rattle.sheets.specs.declared.fault.SheetFault.{SheetFault}
 use Rattle.sheets.specs.declared.fault.SheetFault.TheVariants.{Name}
 use Rattle.records.specs.declared.two.TwoPlaces.{TwoPlaces}
-use Rattle.records.specs.declared.two.Pairs.{Pairs}
 use Rattle.records.specs.Numbers.{count_within}
 use Rattle.records.specs.Places.{Place}
 use Rattle.records.specs.Names.{known_place}
@@ -62,14 +61,6 @@ choice_shown (row.Pair r) = pair_shown r
 choice_shown (row.Apart r) = apart_shown r
 
 -- the same in answers
-abbrev pub shown_tokens : Result TokenPair FieldFault → Result Tokens FieldFault
-shown_tokens (Ok tokens) = Ok (tokens_shown tokens)
-shown_tokens (Err fault) = Err fault
-
-abbrev pub shown_pairs : Result Pairs FieldFault → Result (List Tokens) FieldFault
-shown_pairs (Ok pairs) = Ok (map tokens_shown (take pairs.count pairs.held))
-shown_pairs (Err fault) = Err fault
-
 abbrev pub shown_pair : Result PairRow SheetFault → Result Row SheetFault
 shown_pair (Ok r) = Ok (pair_shown r)
 shown_pair (Err fault) = Err fault

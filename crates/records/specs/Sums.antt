@@ -1,5 +1,5 @@
 -- Sum lines. Assumes nothing.
-use Rattle.std.specs.Prelude.{ℕ, ◌+◌, Bool, false, cond, List, [], length, take, ℤ, pos, negsuc, Ok, Err, codes, Result, ◌==◌}
+use Rattle.std.specs.Prelude.{ℕ, ◌+◌, Bool, false, cond, List, [], length, ℤ, pos, negsuc, Ok, Err, codes, Result, ◌==◌}
 use Rattle.std.specs.Str.{bytes_eq}
 use Rattle.rules.specs.declared.sums.term.Relation.{Relation}
 use Rattle.rules.specs.declared.sums.term.Relation.TheVariants.{AtMost, AtLeast, Equal}
@@ -12,7 +12,6 @@ use Rattle.text.specs.declared.fault.FieldFault.TheVariants.{Malformed, OutOfRan
 use Rattle.text.specs.Numbers.{number_in}
 use Rattle.sheets.specs.declared.fault.SheetFault.{SheetFault}
 use Rattle.sheets.specs.declared.fault.SheetFault.TheVariants.{Name}
-use Rattle.records.specs.declared.sums.Terms.{Terms}
 use Rattle.records.specs.Places.{Place}
 use Rattle.records.specs.Names.{known_place}
 use Rattle.records.specs.Rules.{Row, sum}
@@ -61,8 +60,3 @@ sum_shown row = record { places = row.places; rule = sum row.relation row.bound 
 abbrev pub shown_sum : Result SumRow SheetFault → Result Row SheetFault
 shown_sum (Ok row) = Ok (sum_shown row)
 shown_sum (Err fault) = Err fault
-
--- the terms that were read
-abbrev pub shown_terms : Result Terms SheetFault → Result (List Term) SheetFault
-shown_terms (Ok terms) = Ok (take terms.count terms.held)
-shown_terms (Err fault) = Err fault

@@ -11,11 +11,12 @@ pub mod row;
 mod sums;
 pub mod title;
 mod two;
+mod twos;
 
 pub use kind::SheetKind;
 pub use names::Names;
 pub use places::{Opening, PlaceRow, read_place};
 pub use record::{Word, line_word};
-pub use row::RuleRow;
+pub use row::{BookRow, RuleRow};
 pub use sheets::{SheetFault, SpanKind};
 pub use title::{check_title, title_kind};

@@ -14,6 +14,7 @@ pub(crate) fn whole(field: &[u8], low: i32, high: i32, at: At) -> Result<i32, Fi
 }
 
 // The same for numbers that are not below 0.
+// Not one function over both widths: its bound would need laws that say which number a value is, for these two lines.
 pub(crate) fn count(field: &[u8], low: u8, high: u8, at: At) -> Result<u8, FieldFault>
     ensures { result ≡ count_within low high at field.now }
 {

@@ -1,6 +1,5 @@
 // A line by its word and its count of fields.
 ghost use Rattle.std.specs.Prelude.{◌≡◌};
-ghost use Rattle.std.specs.Str.{bytes_eq};
 ghost use Rattle.text.specs.Fields.{fields_of, fields_left, others};
 ghost use Rattle.records.specs.Words.{word_of, field_count_fits};
 ghost use Rattle.records.specs.Records.{head, record_of, counted, record_of_line, shown_record, shown_line};
@@ -48,13 +47,6 @@ pub enum Record<'s> {
     },
 }
 
-// Whether the bytes are those of the word.
-pub(crate) fn is_word(bytes: &[u8], word: &[u8]) -> bool
-    ensures { result ≡ bytes_eq bytes.now word.now }
-{
-    bytes == word
-}
-
 // The next field; an empty one after the last.
 pub(crate) fn next_field<'s>(fields: &mut Fields<'s>) -> &'s [u8]
     ensures field { result.now ≡ head (fields_left fields.old) }
@@ -67,25 +59,14 @@ pub(crate) fn next_field<'s>(fields: &mut Fields<'s>) -> &'s [u8]
 fn word_of(field: &[u8]) -> Option<Word>
     ensures { result ≡ word_of field.now }
 {
-    if is_word(field, b"game") {
-        return Some(Word::Title);
+    match field {
+        b"game" | b"expansion" => Some(Word::Title),
+        b"place" => Some(Word::Place),
+        b"sum" => Some(Word::Sum),
+        b"pair" => Some(Word::Pair),
+        b"apart" => Some(Word::Apart),
+        _ => None,
     }
-    if is_word(field, b"expansion") {
-        return Some(Word::Title);
-    }
-    if is_word(field, b"place") {
-        return Some(Word::Place);
-    }
-    if is_word(field, b"sum") {
-        return Some(Word::Sum);
-    }
-    if is_word(field, b"pair") {
-        return Some(Word::Pair);
-    }
-    if is_word(field, b"apart") {
-        return Some(Word::Apart);
-    }
-    None
 }
 
 // The word of a line: its first field.
@@ -103,10 +84,9 @@ fn fits_count(word: Word, kind: SpanKind, count: usize) -> bool
     match (word, kind) {
         (Word::Title, _) => count == 2,
         (Word::Place, SpanKind::Amounts) => count == 4,
-        (Word::Place, SpanKind::Choices) => count == 3,
-        (Word::Sum, _) => 5 <= count && count <= 35 && count % 2 == 1,
-        (Word::Pair, _) => 5 <= count && count <= 203 && count % 2 == 1,
-        (Word::Apart, _) => count == 3,
+        (Word::Place, SpanKind::Choices) | (Word::Apart, _) => count == 3,
+        (Word::Sum, _) => (5..=35).contains(&count) && count % 2 == 1,
+        (Word::Pair, _) => (5..=203).contains(&count) && count % 2 == 1,
     }
 }
 
@@ -160,8 +140,5 @@ pub(crate) fn word_record<'s>(kind: SpanKind, word: Word, line: &'s [u8]) -> Opt
 pub(crate) fn line_record<'s>(kind: SpanKind, line: &'s [u8]) -> Option<Record<'s>>
     ensures { shown_line result ≡ record_of_line kind line.now }
 {
-    match line_word(line) {
-        Some(word) => word_record(kind, word, line),
-        None => None,
-    }
+    word_record(kind, line_word(line)?, line)
 }

@@ -19,19 +19,18 @@ use rules::choices::ChoiceRow;
 use rules::rows;
 use rules::sums::SumRow;
 use sheets::{SheetFault, SpanKind};
-use spans::{Amount, Choice};
+use spans::{Amount, Choice, Span};
 
 // A row of a table that the rule lines of one kind of sheet fill.
-pub trait RuleRow: rows::Row {
+pub trait RuleRow: Copy {
+    // the spans that the rules of the sheet are over
+    type Span: Span;
+
     // the kind of sheet
     ghost sheets: { SpanKind };
 
     // the rule that a row holds
     ghost holds: { Self → Row };
-
-    // Does nothing. Its contract is that each row is for the boards of the rule that it holds, and means that rule.
-    fn means()
-        ensures { (row : Self) → Meant (Self.boards row) (Self.rule row) (holds row) };
 
     // The kind of span that the sheet speaks of.
     fn kind() -> SpanKind
@@ -45,6 +44,16 @@ pub trait RuleRow: rows::Row {
     fn open(opening: Opening) -> Self::Span
         ensures { (x : ℤ) → Self.Span.Span.kind.admits result x ≡ opens sheets opening x };
 }
+
+// Such a row that is a row of a book, too.
+pub trait BookRow: RuleRow + rows::Row {
+    // Does nothing. Its contract is that each row is for the boards of the rule that it holds, and means that rule.
+    fn means()
+        ensures { (row : Self) → Meant (Self.boards row) (Self.rule row) (Self.holds row) };
+}
+
+// Three functions and not one, as each takes other fields out of its record and makes another row of them. Names and line go
+// down as two parameters: `read` takes them so, and a struct of both would make each clause longer.
 
 // The row of a pair line.
 fn pair_line(names: Names, bytes: &[u8], line: usize) -> Result<ChoiceRow, SheetFault>
@@ -94,11 +103,11 @@ fn sum_line(names: Names, bytes: &[u8], line: usize) -> Result<SumRow, SheetFaul
 }
 
 impl RuleRow for SumRow {
+    type Span = Amount;
+
     ghost sheets = { Amounts };
 
     ghost holds = { sum_shown };
-
-    fn means() {}
 
     fn kind() -> SpanKind {
         SpanKind::Amounts
@@ -120,11 +129,11 @@ impl RuleRow for SumRow {
 }
 
 impl RuleRow for ChoiceRow {
+    type Span = Choice;
+
     ghost sheets = { Choices };
 
     ghost holds = { choice_shown };
-
-    fn means() {}
 
     fn kind() -> SpanKind {
         SpanKind::Choices
@@ -144,4 +153,12 @@ impl RuleRow for ChoiceRow {
             Opening::Tokens { count } => Choice::first(count),
         }
     }
+}
+
+impl BookRow for SumRow {
+    fn means() {}
+}
+
+impl BookRow for ChoiceRow {
+    fn means() {}
 }

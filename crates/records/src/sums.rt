@@ -1,12 +1,15 @@
 // Sum lines: a relation, a bound, and coefficients each followed by a name.
-ghost use Rattle.std.specs.Prelude.{◌≡◌, ◌≤◌, [], length, IfOk};
+ghost use Rattle.std.specs.Prelude.{◌≡◌, ◌≤◌, length};
 ghost use Rattle.text.specs.Fields.{fields_left};
+ghost use Rattle.rules.specs.declared.sums.term.Term.{Term};
 ghost use Rattle.records.specs.Names.{named};
-ghost use Rattle.records.specs.Sums.{relation_at, coefficient_at, term_of, terms_from, sum_fields, shown_terms, shown_sum};
+ghost use Rattle.records.specs.Sums.{relation_at, coefficient_at, term_of, sum_fields, shown_sum};
 
 use crate::names::Names;
 use crate::numbers::whole;
-use crate::record::{is_word, next_field};
+use crate::twos::{Item, read_twos};
+use rules::few::Few;
+use rules::sums::row::MOST_TERMS;
 use rules::sums::{Relation, SumRow, Term, uses_place};
 use sheets::SheetFault;
 use text::{At, FieldFault, Fields, number_within};
@@ -15,29 +18,16 @@ const MOST_BOUND: i64 = 1_000_000_000_000;
 
 const MOST_COEFFICIENT: i32 = 10_000;
 
-const MOST_TERMS: usize = 16;
-
-// The terms of a sum: the first `count` of those held here.
-#[derive(Clone, Copy)]
-pub(crate) struct Terms {
-    held: [Term; MOST_TERMS],
-    count: usize,
-}
-
 // The relation that a field spells, or fault 4.
 fn read_relation(field: &[u8], at: At) -> Result<Relation, FieldFault>
     ensures { result ≡ relation_at at field.now }
 {
-    if is_word(field, b"<=") {
-        return Ok(Relation::AtMost);
+    match field {
+        b"<=" => Ok(Relation::AtMost),
+        b">=" => Ok(Relation::AtLeast),
+        b"=" => Ok(Relation::Equal),
+        _ => Err(FieldFault::Malformed(at)),
     }
-    if is_word(field, b">=") {
-        return Ok(Relation::AtLeast);
-    }
-    if is_word(field, b"=") {
-        return Ok(Relation::Equal);
-    }
-    Err(FieldFault::Malformed(at))
 }
 
 // The coefficient that a field spells: fault 4 where it spells no number, fault 5 where that is 0 or beyond 10,000.
@@ -51,59 +41,39 @@ fn read_coefficient(field: &[u8], at: At) -> Result<i32, FieldFault>
     Ok(coefficient)
 }
 
-// The term of two fields, behind the terms that the sum has already.
-fn read_term(
-    names: Names,
-    terms: &[Term],
-    coefficient: &[u8],
-    name: &[u8],
-    at: At,
-) -> Result<Term, SheetFault>
-    requires { at.field ≤ 100 }
-    ensures { result ≡ term_of (named names.entry) at.line at.field terms.now coefficient.now name.now }
-{
-    let coefficient = read_coefficient(coefficient, at)?;
-    let next = At {
-        line: at.line,
-        field: at.field + 1,
-    };
-    let place = names.place(name, next)?;
-    if uses_place(terms, place) {
-        return Err(SheetFault::Name(next));
-    }
-    Ok(Term { coefficient, place })
-}
+impl Item for Term {
+    type Fault = SheetFault;
 
-// The terms of a sum line, from its field 3 on.
-fn read_terms(names: Names, fields: Fields, line: usize) -> Result<Terms, SheetFault>
-    requires { length (fields_left fields) ≤ 32 }
-    ensures terms { shown_terms result ≡ terms_from (named names.entry) line 3 [] (fields_left fields.entry) }
-    ensures few { IfOk result (λ t. t.count ≤ 16) }
-{
-    let mut left = fields;
-    let mut terms = Terms {
-        held: [Term {
-            coefficient: 0,
-            place: 0,
-        }; MOST_TERMS],
-        count: 0,
+    ghost Shown = { Term };
+
+    ghost shows = { λ t. t };
+
+    ghost reads = { term_of };
+
+    const BLANK: Term = Term {
+        coefficient: 0,
+        place: 0,
     };
-    let mut field = 3;
-    while let Some(coefficient) = left.next() {
-        let name = next_field(&mut left);
-        let count = terms.count;
-        let term = read_term(
-            names,
-            &terms.held[0..count],
-            coefficient,
-            name,
-            At { line, field },
-        )?;
-        terms.held[count] = term;
-        terms.count = count + 1;
-        field += 2;
+
+    // The first field is the coefficient, and the second the name.
+    fn read(
+        names: Names,
+        terms: &[Term],
+        coefficient: &[u8],
+        name: &[u8],
+        at: At,
+    ) -> Result<Term, SheetFault> {
+        let coefficient = read_coefficient(coefficient, at)?;
+        let next = At {
+            line: at.line,
+            field: at.field + 1,
+        };
+        let place = names.place(name, next)?;
+        if uses_place(terms, place) {
+            return Err(SheetFault::Name(next));
+        }
+        Ok(Term { coefficient, place })
     }
-    Ok(terms)
 }
 
 // The sum of a sum line's fields, or their first fault from the left.
@@ -120,9 +90,7 @@ pub(crate) fn read_sum(
 {
     let relation = read_relation(relation, At { line, field: 1 })?;
     let bound = number_within(bound, -MOST_BOUND, MOST_BOUND, At { line, field: 2 })?;
-    let terms = read_terms(names, terms, line)?;
-    match SumRow::new(names.count(), relation, bound, &terms.held[0..terms.count]) {
-        Some(row) => Ok(row),
-        None => unreachable(),
-    }
+    let terms: Few<Term, MOST_TERMS> = read_twos(names, terms, line)?;
+    let row = SumRow::new(names.count(), relation, bound, terms.as_slice()).unwrap();
+    Ok(row)
 }

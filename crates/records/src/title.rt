@@ -3,17 +3,18 @@ ghost use Rattle.std.specs.Prelude.{◌≡◌};
 ghost use Rattle.records.specs.Titles.{sheet_word, span_word, title_checked, first_kind, kind_of_line};
 
 use crate::kind::SheetKind;
-use crate::record::{Record, is_word, line_record};
+use crate::record::{Record, line_record};
 use sheets::{SheetFault, SpanKind};
 use text::Lines;
 
-// Whether the bytes are the word of such a sheet.
+// Whether the bytes are the word of such a sheet. This and the next are one test for each enum: a trait for both would only
+// name their words.
 fn is_sheet(bytes: &[u8], sheet: SheetKind) -> bool
     ensures { result ≡ sheet_word sheet bytes.now }
 {
     match sheet {
-        SheetKind::Game => is_word(bytes, b"game"),
-        SheetKind::Expansion => is_word(bytes, b"expansion"),
+        SheetKind::Game => bytes == b"game".as_slice(),
+        SheetKind::Expansion => bytes == b"expansion".as_slice(),
     }
 }
 
@@ -22,8 +23,8 @@ fn is_span(bytes: &[u8], kind: SpanKind) -> bool
     ensures { result ≡ span_word kind bytes.now }
 {
     match kind {
-        SpanKind::Amounts => is_word(bytes, b"amounts"),
-        SpanKind::Choices => is_word(bytes, b"choices"),
+        SpanKind::Amounts => bytes == b"amounts".as_slice(),
+        SpanKind::Choices => bytes == b"choices".as_slice(),
     }
 }
 
@@ -44,9 +45,10 @@ pub fn check_title(asked: SheetKind, kind: SpanKind, line: &[u8]) -> Result<(), 
 fn line_kind(line: &[u8]) -> SpanKind
     ensures { result ≡ kind_of_line line.now }
 {
-    match check_title(SheetKind::Game, SpanKind::Choices, line) {
-        Ok(()) => SpanKind::Choices,
-        Err(_) => SpanKind::Amounts,
+    if check_title(SheetKind::Game, SpanKind::Choices, line).is_ok() {
+        SpanKind::Choices
+    } else {
+        SpanKind::Amounts
     }
 }
 
@@ -58,7 +60,6 @@ pub fn title_kind(sheet: &[u8]) -> SpanKind
     let mut lines = Lines::new(sheet);
     match lines.next() {
         Ok(Some(line)) => line_kind(line),
-        Ok(None) => SpanKind::Amounts,
-        Err(_) => SpanKind::Amounts,
+        Ok(None) | Err(_) => SpanKind::Amounts,
     }
 }

@@ -1,33 +1,27 @@
 // Rules between two places: pair lines and apart lines.
-ghost use Rattle.std.specs.Prelude.{◌≡◌, ◌≤◌, [], map, length, IfOk};
+ghost use Rattle.std.specs.Prelude.{◌≡◌, ◌≤◌, length};
 ghost use Rattle.text.specs.Fields.{fields_left};
 ghost use Rattle.records.specs.Names.{named};
-ghost use Rattle.records.specs.Between.{two_places, tokens_at, tokens_from, pair_fields, apart_fields, shown_tokens, shown_pairs, shown_pair, shown_apart};
+ghost use Rattle.records.specs.Rules.{Tokens};
+ghost use Rattle.records.specs.Between.{two_places, tokens_at, tokens_shown, pair_fields, apart_fields, shown_pair, shown_apart};
 
 use crate::names::Names;
 use crate::numbers::count;
-use crate::record::next_field;
+use crate::twos::{Item, read_twos};
 use books::Place;
+use rules::choices::pair::MOST_PAIRS;
 use rules::choices::{ApartRow, PairRow, TokenPair};
+use rules::few::Few;
 use sheets::SheetFault;
 use text::{At, FieldFault, Fields};
 
 const LAST_TOKEN: u8 = 63;
-
-const MOST_PAIRS: usize = 100;
 
 // Two different places.
 #[derive(Clone, Copy)]
 pub(crate) struct TwoPlaces {
     first: Place,
     second: Place,
-}
-
-// The pairs of a rule: the first `count` of those held here.
-#[derive(Clone, Copy)]
-pub(crate) struct Pairs {
-    held: [TokenPair; MOST_PAIRS],
-    count: usize,
 }
 
 // The places that the fields 1 and 2 of a line name, or the first fault from the left.
@@ -42,47 +36,36 @@ fn read_two(names: Names, first: &[u8], second: &[u8], line: usize) -> Result<Tw
     Ok(TwoPlaces { first, second })
 }
 
-// The pair of two fields, the first of which is at the place given.
-fn read_tokens(first: &[u8], second: &[u8], at: At) -> Result<TokenPair, FieldFault>
-    requires { at.field ≤ 1000 }
-    ensures { shown_tokens result ≡ tokens_at at.line at.field first.now second.now }
-{
-    let first = count(first, 0, LAST_TOKEN, at)?;
-    let next = At {
-        line: at.line,
-        field: at.field + 1,
-    };
-    let second = count(second, 0, LAST_TOKEN, next)?;
-    match TokenPair::new(first, second) {
-        Some(pair) => Ok(pair),
-        None => unreachable(),
-    }
-}
+impl Item for TokenPair {
+    type Fault = FieldFault;
 
-// The pairs of a pair line, from its field 3 on.
-fn read_pairs(fields: Fields, line: usize) -> Result<Pairs, FieldFault>
-    requires { length (fields_left fields) ≤ 200 }
-    ensures pairs { shown_pairs result ≡ tokens_from line 3 [] (fields_left fields.entry) }
-    ensures few { IfOk result (λ p. p.count ≤ 100) }
-{
-    let mut left = fields;
-    let mut pairs = Pairs {
-        held: [TokenPair {
-            first: 0,
-            second: 0,
-        }; MOST_PAIRS],
-        count: 0,
+    ghost Shown = { Tokens };
+
+    ghost shows = { tokens_shown };
+
+    ghost reads = { λ ps line f ts. tokens_at line f };
+
+    const BLANK: TokenPair = TokenPair {
+        first: 0,
+        second: 0,
     };
-    let mut field = 3;
-    while let Some(first) = left.next() {
-        let second = next_field(&mut left);
-        let pair = read_tokens(first, second, At { line, field })?;
-        let count = pairs.count;
-        pairs.held[count] = pair;
-        pairs.count = count + 1;
-        field += 2;
+
+    // Each field is a token.
+    fn read(
+        _names: Names,
+        _pairs: &[TokenPair],
+        first: &[u8],
+        second: &[u8],
+        at: At,
+    ) -> Result<TokenPair, FieldFault> {
+        let first = count(first, 0, LAST_TOKEN, at)?;
+        let next = At {
+            line: at.line,
+            field: at.field + 1,
+        };
+        let second = count(second, 0, LAST_TOKEN, next)?;
+        Ok(TokenPair::new(first, second).unwrap())
     }
-    Ok(pairs)
 }
 
 // The rule of a pair line's fields, or their first fault from the left.
@@ -98,16 +81,9 @@ pub(crate) fn read_pair(
     ensures { shown_pair result ≡ pair_fields (named names.entry) line first.now second.now (fields_left pairs.entry) }
 {
     let two = read_two(names, first, second, line)?;
-    let pairs = read_pairs(pairs, line)?;
-    match PairRow::new(
-        names.count(),
-        two.first,
-        two.second,
-        &pairs.held[0..pairs.count],
-    ) {
-        Some(row) => Ok(row),
-        None => unreachable(),
-    }
+    let pairs: Few<TokenPair, MOST_PAIRS> = read_twos(names, pairs, line)?;
+    let row = PairRow::new(names.count(), two.first, two.second, pairs.as_slice()).unwrap();
+    Ok(row)
 }
 
 // The rule of an apart line's fields, or their first fault from the left.
@@ -120,8 +96,6 @@ pub(crate) fn read_apart(
     ensures { shown_apart result ≡ apart_fields (named names.entry) line first.now second.now }
 {
     let two = read_two(names, first, second, line)?;
-    match ApartRow::new(names.count(), two.first, two.second) {
-        Some(row) => Ok(row),
-        None => unreachable(),
-    }
+    let row = ApartRow::new(names.count(), two.first, two.second).unwrap();
+    Ok(row)
 }

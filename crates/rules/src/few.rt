@@ -5,7 +5,8 @@ mod methods;
 #[cfg(test)]
 mod tests;
 
-// A list of at most N items: the first `count` of those held here.
+// A list of at most N items: the first `count` of those held here. It can be copied, as rows are, which the library's list of
+// this kind cannot.
 #[derive(Copy)]
 pub struct Few<T: Copy, const N: usize> {
     count: usize,

@@ -11,6 +11,7 @@ pub enum SpanKind {
     Choices,
 }
 
+// Read by the whole line, and not by its fields, which is for the records of a sheet.
 // The kind of span that the title of a game names; fault 6 for any other line.
 pub fn game_title(line: &[u8]) -> Result<SpanKind, SheetFault>
     ensures { result ≡ title_of line.now }

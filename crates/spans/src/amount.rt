@@ -3,7 +3,7 @@ ghost use Rattle.spans.specs.Bounds.{proper};
 
 mod methods;
 
-// An amount admits every number from its floor to its ceiling. The one empty amount has floor 1 and ceiling 0.
+// An amount admits every number from its floor to its ceiling. The one empty amount has floor 1 and ceiling 0, as the game is told.
 #[derive(Clone, Copy, PartialEq, Eq, Debug)]
 pub struct Amount {
     floor: i32,

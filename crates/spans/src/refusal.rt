@@ -9,7 +9,7 @@ pub enum SpanRefusal {
 }
 
 impl SpanRefusal {
-    // The number by which the game is told.
+    // The number by which the game is told. No trait of refusals: it would have a table for each type all the same.
     pub fn number(self) -> u8
         ensures { result ≡ refusal_number self }
     {

@@ -3,7 +3,8 @@ ghost use Rattle.std.specs.Prelude.{◌≡◌, ◌≤◌, length};
 
 pub mod walk;
 
-// A reader that walks a sheet in place: the lines before `offset` are read, and there are `read` of them.
+// A reader that walks a sheet in place: the lines before `offset` are read, and there are `read` of them. It holds the whole
+// sheet, and not what is left of it, since it is asked for in this form.
 #[derive(Clone, Copy)]
 pub struct Lines<'s> {
     sheet: &'s [u8],

@@ -20,7 +20,7 @@ fn value(first: u8, rest: &[u8]) -> Option<u64>
     ensures small { IfSome result (λ n. n < 10 ^ 13) }
 {
     let mut n = digit(first)?;
-    // A loop and not a chain: the first byte that is no digit ends it, and its invariant keeps the number small.
+    // A loop and no `try_fold`: that the number stays small is its invariant, and a closure has none.
     for b in rest {
         n = n * 10 + digit(*b)?;
     }
@@ -70,7 +70,8 @@ pub fn number(field: &[u8]) -> Option<i64>
     }
 }
 
-// The number that a field spells, from `low` to `high`: fault 4 where it spells none, fault 5 where it lies outside.
+// The number that a field spells, from `low` to `high`: fault 4 where it spells none, fault 5 where it lies outside. The two
+// are parameters of their own, since a range in their place would say no more to a caller.
 pub fn number_within(field: &[u8], low: i64, high: i64, at: At) -> Result<i64, FieldFault>
     ensures { result ≡ number_in low high at field.now }
 {

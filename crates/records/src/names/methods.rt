@@ -45,9 +45,6 @@ impl<'n, 's> Names<'n, 's> {
         ensures { result ≡ known_place (named self.entry) at field.now }
     {
         let name = name(field, at)?;
-        match self.position(name) {
-            Some(place) => Ok(place),
-            None => Err(SheetFault::Name(at)),
-        }
+        self.position(name).ok_or(SheetFault::Name(at))
     }
 }

@@ -12,7 +12,8 @@ mod methods;
 pub const MOST_PAIRS: usize = 100;
 
 // A rule that lists the pairs of tokens that its two places may have. It is for boards of so many places, and has 1 to 100
-// pairs.
+// pairs. The place count and the two places are fields here and in an apart rule, and no struct of their own: each is read
+// alone, by name, where the rules of a sheet are shown.
 #[derive(Clone, Copy)]
 pub struct PairRow {
     pub places: Place,

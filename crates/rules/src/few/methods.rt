@@ -5,6 +5,7 @@ ghost use Rattle.rules.specs.Fews.{listed, FewOf};
 use super::Few;
 use std::alloc::AllocError;
 
+// By hand: "`Clone` cannot be derived for a struct with a ghost field", the checker says of this generic one.
 impl<T: Copy, const N: usize> Clone for Few<T, N> {
     ghost is_clone = { λ few copy. copy ≡ few };
 

@@ -36,6 +36,7 @@ impl<'t, R: Row> RowBook<'t, R> {
         ensures { let book = row_book_of R.Span.Span.kind R.boards R.rule self.now.places self.now.rows.now in MatchOption result (book.rule rule ≡ idle R.Span.Span.kind (0 ∷ [])) (λ row. (R.boards row.now ≡ book.places) × (book.rule rule ≡ R.rule row.now)) }
     {
         let row = &self.rows[rule as usize];
+        // An `if`, and no filter of `Some(row)`: with that the proof was left open.
         if row.places() == self.places() {
             Some(row)
         } else {

@@ -19,6 +19,7 @@ fn cut(span: Amount, low: i64, high: i64) -> Amount
     Amount::between(floor as i32, ceiling as i32)
 }
 
+// That a coefficient is one stands in each contract: a term is public, and may hold any number.
 // The numbers x of the span with a * x at most r. The quotient is rounded inward, whatever the signs.
 pub(super) fn at_most(span: Amount, a: i32, r: i64) -> Amount
     requires a { T (is_coefficient a) }

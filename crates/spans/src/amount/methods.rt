@@ -32,7 +32,8 @@ impl Amount {
         }
     }
 
-    // The same, but the empty amount where `new` refuses.
+    // The same, but the empty amount where `new` refuses. It tests the bounds itself: through `new` it would make a refusal to
+    // throw it away.
     pub fn between(floor: i32, ceiling: i32) -> Amount
         ensures value { result ≡ amount_from floor ceiling }
         ensures admits { (x : ℤ) → amount_admits result x ≡ (bounded floor ceiling && from_to floor ceiling x) }

@@ -81,7 +81,7 @@ impl Span for Choice {
     }
 
     fn admits(self, number: i32) -> bool {
-        // A test and a cast: `try_from` would still let 64 to 255 through.
+        // A test and a cast: behind `try_from`, the numbers 64 to 255, which have no bit, would be one more case to prove.
         if number < 0 || number >= TOKENS as i32 {
             return false;
         }

@@ -47,7 +47,8 @@ impl<'s> Lines<'s> {
     }
 
     // The next line without its byte 10; nothing at the sheet's end.
-    // No `Iterator`: a fault leaves the reader where it was and is answered again for ever, so the answers need not end.
+    // No `Iterator`: a fault leaves the reader where it was and is answered again for ever, so no loop over it would be proved to
+    // end.
     pub fn next(&mut self) -> Result<Option<&'s [u8]>, TextFault>
         ensures answer { shown_line result ≡ (line_next self.old.read (left self.old)).answer }
         ensures left { left self.new ≡ (line_next self.old.read (left self.old)).left }

@@ -22,6 +22,7 @@ pub fn kept_apart(span: Choice, other: Choice) -> Choice
     ensures value { result ≡ keeping span (λ t. not (admits_only other t)) }
     ensures admits { (t : ℕ) → choice_admits result (pos t) ≡ (choice_admits span (pos t) && not (admits_only other t)) }
 {
+    // A match, and no `map_or`: behind that the check left both facts of the contract open.
     match only_token(other) {
         Some(token) => span.without(token),
         None => span,
