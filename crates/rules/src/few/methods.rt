@@ -1,5 +1,5 @@
 // How lists of a few items are made, read and copied.
-ghost use Rattle.std.specs.Prelude.{◌≡◌, ◌≤◌, ◌<◌, [], ◌∷◌, ◌++◌, length, MatchOption, MatchResult, ⊤};
+ghost use Rattle.std.specs.Prelude.{◌≡◌, ◌≤◌, ◌<◌, [], ◌∷◌, ◌++◌, length, slice_set, MatchOption, MatchResult, ⊤};
 ghost use Rattle.rules.specs.Fews.{listed, FewOf};
 
 use super::Few;
@@ -44,9 +44,9 @@ impl<T: Copy, const N: usize> Few<T, N> {
         })
     }
 
-    // Adds an item at the end, or gives it back where N items are there.
+    // Adds an item at the end and leaves the entries past it as they are, or gives the item back where N items are there.
     pub fn push(&mut self, item: T) -> Result<(), T>
-        ensures { MatchResult result (λ _. (length (listed self.old) < N) × (listed self.new ≡ listed self.old ++ item ∷ [])) (λ back. (length (listed self.old) ≡ N) × (self.new ≡ self.old) × (back ≡ item)) }
+        ensures { MatchResult result (λ _. (length (listed self.old) < N) × (listed self.new ≡ listed self.old ++ item ∷ []) × (self.new.held ≡ slice_set self.old.held self.old.count item)) (λ back. (length (listed self.old) ≡ N) × (self.new ≡ self.old) × (back ≡ item)) }
     {
         if self.count == N {
             return Err(item);
