@@ -79,6 +79,14 @@ impl<'a, 'b, A: Book, B: Book<Span = A::Span>> Book for Joined<'a, 'b, A, B> {
         self.second.scope_at(rule - n, i)
     }
 
+    fn has_place(&self, rule: RuleNumber, place: Place) -> bool {
+        let n = self.first.rules();
+        if rule < n {
+            return self.first.has_place(rule, place);
+        }
+        self.second.has_place(rule - n, place)
+    }
+
     fn answer(&self, rule: RuleNumber, place: Place, board: &[A::Span]) -> A::Span {
         let n = self.first.rules();
         if rule < n {

@@ -43,3 +43,8 @@ got_or_none (Some x) d (l ∷ ls) (suc n) z e = got_or_none (Some x) d ls n z e
 pub numbered : (test : List ℕ → Bool) (r : Option (Bor (List ℕ))) (d : Bor (List ℕ)) (ls ms : List (List ℕ)) (n : ℕ) → d.now ≡ [] → option_map (λ (x : Bor (List ℕ)). x.now) r ≡ slice_get (filter test (ls ++ ms)) n
     → (unwrap_or r d).now ≡ slice_index_or (filter test ls ++ filter test ms) n []
 numbered test r d ls ms n z e = got_or_none r d (filter test (ls ++ ms)) n z e ∙ ap (λ (xs : List (List ℕ)). slice_index_or xs n []) (filter-append test ls ms)
+
+-- the same, for a number that equals the one that is counted to
+pub numbered_as : (test : List ℕ → Bool) (r : Option (Bor (List ℕ))) (d : Bor (List ℕ)) (ls ms : List (List ℕ)) (n m : ℕ) → d.now ≡ [] → option_map (λ (x : Bor (List ℕ)). x.now) r ≡ slice_get (filter test (ls ++ ms)) n → n ≡ m
+    → (unwrap_or r d).now ≡ slice_index_or (filter test ls ++ filter test ms) m []
+numbered_as test r d ls ms n m z e is = numbered test r d ls ms n z e ∙ ap (λ (k : ℕ). slice_index_or (filter test ls ++ filter test ms) k []) is

@@ -1,5 +1,6 @@
 // Rows: what a table of rules holds of each rule, and the books made of them.
 ghost use Rattle.std.specs.Prelude.{◌≡◌, ℕ, ◌&&◌, ◌==◌, List, length, Some, None, nat_lt, slice_get, if◌then◌else◌};
+ghost use Rattle.books.specs.Boards.{has};
 ghost use Rattle.books.specs.Meaning.{Rule, Sound};
 ghost use Rattle.rules.specs.RowBooks.{RowLaw};
 
@@ -41,6 +42,10 @@ pub trait Row: Copy {
     // Its places, in order, counted from 0; none past the last.
     fn scope_at(&self, i: u8) -> Option<Place>
         ensures { result ≡ slice_get (rule self.now).scope i };
+
+    // Whether the rule has the place.
+    fn has_place(&self, place: Place) -> bool
+        ensures { result ≡ has place (rule self.now).scope };
 
     // Whether the place is one of a board of so many places as the row is for.
     fn is_on(&self, place: Place, board: &[Self::Span]) -> bool

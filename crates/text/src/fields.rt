@@ -44,6 +44,7 @@ impl<'l> Iterator for Fields<'l> {
 pub fn field_count(line: &[u8]) -> usize
     ensures { result ≡ min (length (fields_of line.now)) (2 ^ 64 - 1) }
 {
-    let tabs = line.iter().filter(|b| **b == TAB).count();
+    // A sum, and no count behind a filter, which branches at each byte.
+    let tabs: usize = line.iter().map(|b| usize::from(*b == TAB)).sum();
     tabs.saturating_add(1)
 }

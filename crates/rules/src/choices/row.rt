@@ -88,6 +88,14 @@ impl Row for ChoiceRow {
         }
     }
 
+    // One match for both places: it is asked for every rule of a book at each strike.
+    fn has_place(&self, place: Place) -> bool {
+        match self {
+            ChoiceRow::Pair(row) => place == row.first || place == row.second,
+            ChoiceRow::Apart(row) => place == row.first || place == row.second,
+        }
+    }
+
     fn answer_on(&self, place: Place, board: &[Choice]) -> Option<Choice> {
         if !self.is_on(place, board) {
             return None;

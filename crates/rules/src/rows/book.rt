@@ -72,6 +72,12 @@ impl<'t, R: Row> Book for RowBook<'t, R> {
             .unwrap_or(0)
     }
 
+    // Asked of the row whole, which tests once that it fits, and not for each of its places.
+    fn has_place(&self, rule: RuleNumber, place: Place) -> bool {
+        self.fitting_row(rule)
+            .map_or(place == 0, |row| row.has_place(place))
+    }
+
     fn answer(&self, rule: RuleNumber, place: Place, board: &[R::Span]) -> R::Span {
         self.fitting_row(rule)
             .and_then(|row| row.answer_on(place, board))

@@ -125,6 +125,10 @@ impl Row for SumRow {
         self.terms().get(i as usize).map(|t| t.place)
     }
 
+    fn has_place(&self, place: Place) -> bool {
+        uses_place(self.terms(), place)
+    }
+
     fn answer_on(&self, place: Place, board: &[Amount]) -> Option<Amount> {
         if !self.is_on(place, board) {
             return None;
